@@ -71,15 +71,21 @@ pub impl Extent for Plain as PlainExtent {
     }
 
     fn sum(self, other: Plain) -> Plain {
-        Plain { strip: self.strip.wrapping_add(other.strip) }
+        Plain {
+            strip: self.strip.wrapping_add(other.strip),
+        }
     }
 
     fn difference(self, other: Plain) -> Plain {
-        Plain { strip: self.strip.wrapping_sub(other.strip) }
+        Plain {
+            strip: self.strip.wrapping_sub(other.strip),
+        }
     }
 
     fn larger(self, other: Plain) -> Plain {
-        Plain { strip: self.strip.max(other.strip) }
+        Plain {
+            strip: self.strip.max(other.strip),
+        }
     }
 
     fn enter(length: i64) -> Plain {
@@ -91,11 +97,7 @@ pub impl Extent for Plain as PlainExtent {
     }
 
     fn number(self, side: usize) -> Option<i64> {
-        if side < 1 {
-            Some(self.strip)
-        } else {
-            None
-        }
+        if side < 1 { Some(self.strip) } else { None }
     }
 }
 
@@ -114,7 +116,10 @@ pub impl Extent for Twin as TwinExtent {
     ghost entered = { λ _ z. z };
 
     fn zero() -> Twin {
-        Twin { strip: 0, window: 0 }
+        Twin {
+            strip: 0,
+            window: 0,
+        }
     }
 
     fn sum(self, other: Twin) -> Twin {
@@ -139,7 +144,10 @@ pub impl Extent for Twin as TwinExtent {
     }
 
     fn enter(length: i64) -> Twin {
-        Twin { strip: length, window: length }
+        Twin {
+            strip: length,
+            window: length,
+        }
     }
 
     fn sides() -> usize {

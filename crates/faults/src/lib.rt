@@ -2,7 +2,6 @@
 ghost use mathlib.Core.Path.{_≡_};
 ghost use Rattle.std.specs.declared.option.Option.the-variants.{Some};
 ghost use Rattle.faults.specs.Faults.{numberOf, layerOf, layerNumber, faultAt, textOf};
-
 use std::fmt;
 
 // Why a call is refused. The author of a manuscript mends the first nine, the host the others but the last.
@@ -118,7 +117,11 @@ impl Cause {
     pub fn at(self, place: usize) -> Fault
         ensures { λ r. ⌜ r ≡ faultAt self place ⌝ }
     {
-        Fault { cause: self, place, layer: self.layer() }
+        Fault {
+            cause: self,
+            place,
+            layer: self.layer(),
+        }
     }
 }
 

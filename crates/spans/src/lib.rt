@@ -1,0 +1,4 @@
+//! The span table in lent memory, its rightward merge, and the natural edges of the columns.
+pub mod edges;
+pub mod merge;
+pub mod table;
