@@ -1,12 +1,14 @@
 -- What a span table refuses, in this order. Assumes nothing.
 use mathlib.Core.Path.{_≡_}
-use mathlib.Core.Bool.{cond, _&&_}
+use mathlib.Core.Bool.{Bool, true, cond, _&&_}
+use mathlib.Core.List.{List, [], _∷_}
 use Prim.Native.Nat.{ℕ, _*_}
 use lib.Dec.{leb, ltb}
 use Rattle.std.specs.declared.option.Option.{Option}
 use Rattle.std.specs.declared.option.Option.the-variants.{Some, None}
 use Rattle.std.specs.declared.result.Result.{Result}
 use Rattle.std.specs.declared.result.Result.the-variants.{Ok, Err}
+use Rattle.widths.specs.declared.Entry.{Entry}
 use Rattle.spans.specs.declared.table.Misfit.{Misfit}
 use Rattle.spans.specs.declared.table.Misfit.the-variants.{Columns, Memory, Span}
 
@@ -33,6 +35,17 @@ mergeFault n room widths gaps = orElse (rowFault n room widths) (cond (ltb n gap
 -- the turn of a column that the table has
 abbrev pub turnFault : ℕ → ℕ → ℕ → ℕ → Option Misfit
 turnFault n room widths q = orElse (rowFault n room widths) (cond (ltb q n) None (Some Span))
+
+-- an entry, and each of several, lies in the n columns
+abbrev pub lie : {E : Type 0} → ℕ → Entry E → Bool
+lie n e = leb (e .first) (e .last) && ltb (e .last) n
+
+abbrev pub allLie : {E : Type 0} → ℕ → List (Entry E) → Bool
+allLie n [] = true
+allLie n (e ∷ es) = lie n e && allLie n es
+
+abbrev pub settleFault : {E : Type 0} → ℕ → ℕ → ℕ → ℕ → List (Entry E) → Option Misfit
+settleFault n room widths gaps es = orElse (mergeFault n room widths gaps) (cond (allLie n es) None (Some Span))
 
 -- a width, a gap and an edge for each of 1 to 32 columns, and the starting gap
 abbrev pub edgesFault : ℕ → ℕ → ℕ → ℕ → Option Misfit

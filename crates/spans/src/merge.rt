@@ -48,7 +48,7 @@ fn turn_fault(columns: usize, room: usize, row: usize, column: usize) -> Option<
     }
 }
 
-fn merge_fault(columns: usize, room: usize, row: usize, gaps: usize) -> Option<Misfit>
+pub(crate) fn merge_fault(columns: usize, room: usize, row: usize, gaps: usize) -> Option<Misfit>
     ensures { λ r. ⌜ r ≡ mergeFault columns room row gaps ⌝ }
 {
     if let Some(misfit) = row_fault(columns, room, row) {

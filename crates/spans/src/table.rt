@@ -74,7 +74,7 @@ pub(crate) fn store<T: Copy>(slice: &mut [T], place: usize, value: T)
 }
 
 // Empties the cells before a place.
-fn empty_cells<E: Extent>(cells: &mut [Option<E>], upto: usize)
+pub(crate) fn empty_cells<E: Extent>(cells: &mut [Option<E>], upto: usize)
     requires { ⌜ upto ≤ length (now cells) ⌝ }
     ensures emptied { λ _. ⌜ ((p : ℕ) → p < upto → getD (now (cells .exit)) p None ≡ None) ⌝ }
     ensures others { λ _. ⌜ ((p : ℕ) → upto ≤ p → getD (now (cells .exit)) p None ≡ getD (now (cells .entry)) p None) ⌝ }
@@ -85,7 +85,7 @@ fn empty_cells<E: Extent>(cells: &mut [Option<E>], upto: usize)
 }
 
 // Joins a width into the cell at a place.
-fn widen<E: Extent>(cells: &mut [Option<E>], place: usize, width: E)
+pub(crate) fn widen<E: Extent>(cells: &mut [Option<E>], place: usize, width: E)
     requires { ⌜ place < length (now cells) ⌝ }
     ensures here { λ _. ⌜ ((k : ℕ) → k < count → seen num k (getD (now (cells .exit)) place None) ≡ join (seen num k (getD (now (cells .entry)) place None)) (Some (num width k))) ⌝ }
     ensures others { λ _. ⌜ ((p : ℕ) → (p ≡ place → ⊥) → getD (now (cells .exit)) p None ≡ getD (now (cells .entry)) p None) ⌝ }
