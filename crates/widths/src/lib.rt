@@ -19,10 +19,7 @@ pub struct Entry<E> {
 pub fn width_counted<E: Extent>(w: Option<E>) -> E
     ensures { λ r. ⌜ ((k : ℕ) → k < count → num r k ≡ size (seen num k w)) ⌝ }
 {
-    match w {
-        Some(w) => w,
-        None => E::zero(),
-    }
+    w.unwrap_or(E::zero())
 }
 
 // The gap after a column as it counts: zero after a void one.
