@@ -1,0 +1,58 @@
+ghost use mathlib.Core.Path.{_≡_};
+ghost use Rattle.measure.specs.Words.{IsWord};
+ghost use Rattle.measure.specs.Twins.{bothSides, twinMeaning, TwinOf};
+use crate::measurer::Measurer;
+use crate::measurer::Metrics;
+use extent::Extent;
+use extent::Plain;
+use extent::PlainExtent;
+use extent::Twin;
+use extent::TwinExtent;
+
+// Two measurers of plain extents, the first for the strip, the second for the window.
+#[derive(Clone, Copy, Debug)]
+pub struct TwinMeasurer<A, B> {
+    pub strip: A,
+    pub window: B,
+}
+
+pub impl<A: Measurer<Extent = Plain>, B: Measurer<Extent = Plain>> Measurer for TwinMeasurer<
+    A,
+    B,
+> as TwinMeasuring {
+    type Extent = Twin;
+
+    ghost meaning = { λ m w. twinMeaning (A·Measurer .meaning (m .strip) w) (B·Measurer .meaning (m .window) w) };
+
+    ghost blank = { λ m. bothSides (A·Measurer .blank (m .strip)) (B·Measurer .blank (m .window)) };
+
+    // Asks the first, then the second; the first refusal is the answer.
+    fn word(&self, bytes: &[u8]) -> Result<Metrics<Twin>, usize>
+        ensures answer { λ r. ⌜ (IsWord (now (bytes .entry)) → r ≡ twinMeaning (A·Measurer .meaning (now (self .entry) .strip) (now (bytes .entry))) (B·Measurer .meaning (now (self .entry) .window) (now (bytes .entry)))) ⌝ }
+        ensures law { λ r. ⌜ (IsWord (now (bytes .entry)) → TwinOf (A·Measurer .meaning (now (self .entry) .strip) (now (bytes .entry))) (B·Measurer .meaning (now (self .entry) .window) (now (bytes .entry))) r) ⌝ }
+    {
+        let strip = self.strip.word(bytes)?;
+        let window = self.window.word(bytes)?;
+        Ok(Metrics {
+            width: Twin {
+                strip: strip.width.strip,
+                window: window.width.strip,
+            },
+            height: Twin {
+                strip: strip.height.strip,
+                window: window.height.strip,
+            },
+            depth: Twin {
+                strip: strip.depth.strip,
+                window: window.depth.strip,
+            },
+        })
+    }
+
+    fn space(&self) -> Twin {
+        Twin {
+            strip: self.strip.space().strip,
+            window: self.window.space().strip,
+        }
+    }
+}
