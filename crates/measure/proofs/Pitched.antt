@@ -2,17 +2,15 @@
 use Prim.Native.Nat.{ℕ, _-_, _*_, _^_, _<_, _≤_, min}
 use native.Mathlib.Nat.{mul-le-mul}
 use native.Mathlib.Omega.{arith}
-use mathlib.Core.Bool.{Bool, true, false, _&&_, cond}
-use mathlib.Core.List.{List, [], _∷_}
+use mathlib.Core.Bool.{true, false}
+use mathlib.Core.List.{List}
 use mathlib.Core.Logic.{inl, inr}
 use mathlib.Core.Path.{_≡_, refl, sym, ap, subst, _∙_}
 use lib.IntN.{ℤ, pos, negsuc, _*ℤ_}
 use lib.ListN.{length, getD, take}
-use lib.Signed.{leZ, _≤ℤ_, _<ℤ_}
+use lib.Signed.{_≤ℤ_, _<ℤ_}
 use mir.Syntax.{w64}
 use mir.Val.{SFits, ofZ, toZ, hbits}
-use Rattle.std.specs.Orderings.{Decides}
-use Rattle.std.specs.shelf.Lists.{All}
 use Rattle.std.specs.declared.option.Option.{Option}
 use Rattle.std.specs.declared.option.Option.the-variants.{Some, None}
 use Rattle.std.specs.declared.result.Result.{Result}
@@ -21,12 +19,11 @@ use Rattle.std.proofs.shelf.Elements.{all-weaker}
 use Rattle.std.proofs.shelf.Lists.{take-all}
 use Rattle.std.proofs.shelf.Tests.{cases-lt}
 use Rattle.std.proofs.shelf.Signed.{ints, toZ-ofZ, toZ-pos}
-use Rattle.extent.specs.Sizes.{Within}
 use Rattle.extent.specs.declared.Plain.{Plain}
 use Rattle.measure.specs.declared.measurer.Metrics.{Metrics}
-use Rattle.measure.specs.Bounds.{Bounded, Spaced}
-use Rattle.measure.specs.Monos.{Parts, between, inRanges, monoMade, MonoMade, hasCharacter, monoMetrics, refusedOr, monoMeaning, Monospaced}
-use Rattle.measure.specs.Ranges.{Upto, FromTo, MonoRanges}
+use Rattle.measure.specs.Bounds.{Bounded}
+use Rattle.measure.specs.Monos.{Parts, hasCharacter, monoMetrics, refusedOr, monoMeaning, Monospaced}
+use Rattle.measure.specs.Ranges.{Upto, MonoRanges}
 use Rattle.measure.specs.Words.{IsWord, firstNot}
 use Rattle.measure.proofs.Firsts.{first-is, none-all}
 

@@ -1,8 +1,6 @@
 -- Two measurers' answers together are in the ranges of each.
-use Prim.Native.Nat.{ℕ, zero, suc, _<_}
+use Prim.Native.Nat.{ℕ, _<_}
 use native.Mathlib.Omega.{arith}
-use mathlib.Core.List.{List}
-use mathlib.Core.Logic.{inl, inr}
 use mathlib.Core.Path.{_≡_, refl, ap, subst}
 use lib.Dec.{eqb}
 use lib.IntN.{ℤ}
@@ -16,7 +14,7 @@ use Rattle.extent.specs.declared.Twin.{Twin}
 use Rattle.measure.specs.declared.measurer.Metrics.{Metrics}
 use Rattle.measure.specs.Ranges.{Upto}
 use Rattle.measure.specs.Bounds.{Bounded, Spaced}
-use Rattle.measure.specs.Twins.{bothSides, bothMetrics, twinMeaning, TwinOf}
+use Rattle.measure.specs.Twins.{bothSides, bothMetrics, twinMeaning}
 
 abbrev plainNum : Plain → ℕ → ℤ
 plainNum e _ = e .strip
@@ -47,8 +45,3 @@ pub twin-placed : (a b : Result (Metrics Plain) ℕ) (n p : ℕ) → ((q : ℕ) 
 twin-placed (Ok y) (Ok z) n p h g e = absurd (let z : _≡_ {A = ℕ} 0 1 = cc in omega arith)
 twin-placed (Ok y) (Err q) n p h g e = let s : q ≡ p = cc in g p (ap Err s)
 twin-placed (Err q) b n p h g e = let s : q ≡ p = cc in h p (ap Err s)
-
-pub twin-of : (a b : Result (Metrics Plain) ℕ) → TwinOf a b (twinMeaning a b)
-twin-of (Ok y) (Ok z) = (y, z, refl, refl, (refl, refl), (refl, refl), (refl, refl))
-twin-of (Ok y) (Err p) = inr ((y, refl), refl)
-twin-of (Err p) b = inl refl

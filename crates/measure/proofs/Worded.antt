@@ -1,24 +1,23 @@
 -- Which bytes are a word, and what any bytes measure.
 use Prim.Native.Nat.{ℕ, _<_, _≤_}
 use native.Mathlib.Omega.{arith}
-use mathlib.Core.Bool.{Bool, true, false, _&&_, cond}
-use mathlib.Core.List.{List, [], _∷_}
+use mathlib.Core.Bool.{true, false}
+use mathlib.Core.List.{List}
 use mathlib.Core.Logic.{_⊎_, inl, inr}
 use mathlib.Core.Path.{_≡_, refl, sym, ap, subst, _∙_}
 use lib.Dec.{leb}
 use lib.ListN.{length}
 use Rattle.std.specs.Orderings.{Decides}
-use Rattle.std.specs.Vec.{made}
 use Rattle.std.specs.declared.option.Option.{Option}
 use Rattle.std.specs.declared.option.Option.the-variants.{Some, None}
 use Rattle.std.specs.declared.result.Result.{Result}
 use Rattle.std.specs.declared.result.Result.the-variants.{Ok, Err}
-use Rattle.std.proofs.shelf.Tests.{cases-bool, leb-true, leb-false, le-leb, and-from, and-parts, and-cases, and-left, and-right, cond-true, cond-false, both-ways}
+use Rattle.std.proofs.shelf.Tests.{cases-bool, leb-true, leb-false, le-leb, and-from, and-parts, and-cases, and-right, cond-true, cond-false}
 use Rattle.std.proofs.shelf.Ways.{decides-by-and}
 use Rattle.faults.specs.declared.Cause.the-variants as cause
 use Rattle.faults.specs.declared.Fault.{Fault}
 use Rattle.faults.specs.Faults.{faultAt}
-use Rattle.measure.specs.Words.{wordByte, WordBytes, IsWord, wordBytes, wordLong, isWord, firstNot, FirstNot, badByteOr, unfit, Unfit}
+use Rattle.measure.specs.Words.{wordByte, WordBytes, IsWord, wordBytes, wordLong, isWord, firstNot, badByteOr, unfit, Unfit}
 use Rattle.measure.specs.Asked.{characterless, unlessUnfit, measuredBy, Measured}
 use Rattle.measure.proofs.Firsts.{first-is, none-all, all-none}
 
@@ -83,6 +82,7 @@ measured-at meaning w None (Ok x) e d = (word-fits w e, d)
 measured-at meaning w None (Err p) e d = inr (p, word-fits w e, d, refl)
 
 pub measured-law : {X : Type 0} (meaning : List ℕ → Result X ℕ) (w : List ℕ) (r : Result X Fault) → r ≡ measuredBy meaning w → Measured meaning w r
+unfolding measuredBy
 measured-law meaning w r e = subst (Measured meaning w) (sym e) (measured-at meaning w (unfit w) (meaning w) refl refl)
 
 -- every refusal's place is one of the bytes, or 0
@@ -91,10 +91,20 @@ measured-place meaning w f h (inl (inl (p, q, e))) = omega (arith, ap (λ x. x .
 measured-place meaning w f h (inl (inr (b, n, e))) = omega (arith, ap (λ x. x .place) e)
 measured-place meaning w f h (inr (p, q, d, e)) = omega (arith, ap (λ x. x .place) e, h p q d)
 
--- the three ways to an answer
+-- the three ways to an answer, and a word's
 module _ {X : Type 0} (meaning : List ℕ → Result X ℕ) (w : List ℕ) where
+  measured-when : (o : Option Fault) → o ≡ unfit w → unlessUnfit o (characterless (meaning w)) ≡ measuredBy meaning w
+  unfolding measuredBy
+  measured-when o e = ap (λ q. unlessUnfit q (characterless (meaning w))) e
+
   pub measured-refused : (f : Fault) → Some f ≡ unfit w → Err f ≡ measuredBy meaning w
-  measured-refused f e = ap (λ o. unlessUnfit o (characterless (meaning w))) e
+  measured-refused f e = measured-when (Some f) e
 
   pub measured-word : (r : Result X ℕ) → None ≡ unfit w → r ≡ meaning w → characterless r ≡ measuredBy meaning w
-  measured-word r e d = ap characterless d ∙ ap (λ o. unlessUnfit o (characterless (meaning w))) e
+  measured-word r e d = ap characterless d ∙ measured-when None e
+
+  pub measured-missing : (f : Fault) (p : ℕ) → None ≡ unfit w → Err p ≡ meaning w → f ≡ faultAt cause.NoCharacter p → Err f ≡ measuredBy meaning w
+  measured-missing f p e d q = ap Err q ∙ measured-word (Err p) e d
+
+  pub measured-meant : IsWord w → measuredBy meaning w ≡ characterless (meaning w)
+  measured-meant h = sym (measured-when None (sym (cond-true (isWord w) None _ (word-decided w .1 h))))

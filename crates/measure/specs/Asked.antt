@@ -10,7 +10,6 @@ use Rattle.std.specs.declared.result.Result.the-variants.{Ok, Err}
 use Rattle.faults.specs.declared.Cause.the-variants as cause
 use Rattle.faults.specs.declared.Fault.{Fault}
 use Rattle.faults.specs.Faults.{faultAt}
-use Rattle.measure.specs.declared.measurer.Metrics.{Metrics}
 use Rattle.measure.specs.Words.{IsWord, Unfit, unfit}
 
 -- a place without a character, as a fault
@@ -22,8 +21,8 @@ abbrev pub unlessUnfit : {X : Type 0} → Option Fault → Result X Fault → Re
 unlessUnfit (Some f) r = Err f
 unlessUnfit None r = r
 
--- no word is refused, and a word is measured
-abbrev pub measuredBy : {X : Type 0} → (List ℕ → Result X ℕ) → List ℕ → Result X Fault
+-- what is no word is refused, and a word is measured
+unfoldable pub measuredBy : {X : Type 0} → (List ℕ → Result X ℕ) → List ℕ → Result X Fault
 measuredBy meaning w = unlessUnfit (unfit w) (characterless (meaning w))
 
 -- what an answer says: a word has the metrics that are meant; refused is what is no word, or a word's byte that has no

@@ -17,7 +17,7 @@ pub struct Metrics<E> {
     pub depth: E,
 }
 
-// A measurer, in the kind of extent that it names.
+// A measurer answers in the kind of extent that it names, and no answer changes it.
 pub trait Measurer {
     type Extent: Extent;
 
@@ -36,6 +36,7 @@ pub trait Measurer {
     // On each side a space is from 0 to 16,777,215 wide.
     law spaced: { (m : Self) → Spaced (Extent·Extent .count) (Extent·Extent .num) (blank m) };
 
+    // Answers by the meaning, so it refuses only for a byte without a character.
     fn word(&self, bytes: &[u8]) -> Result<Metrics<Self::Extent>, usize>
         ensures answer { λ r. ⌜ (IsWord (now (bytes .entry)) → r ≡ meaning (now (self .entry)) (now (bytes .entry))) ⌝ };
 

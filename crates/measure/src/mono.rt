@@ -2,7 +2,7 @@ ghost use Rattle.measure.specs.Ranges.{MonoRanges};
 
 pub mod measuring;
 
-// Every byte is as wide as the next, and so is a space; the bytes above the last have no character.
+// Monospaced: every byte and a space have one width, the pitch; the bytes above the last have no character.
 #[derive(Clone, Copy, PartialEq, Eq, Debug)]
 pub struct Mono {
     pitch: i64,

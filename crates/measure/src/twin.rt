@@ -16,10 +16,21 @@ pub struct TwinMeasurer<A, B> {
     pub window: B,
 }
 
-pub impl<A: Measurer<Extent = Plain>, B: Measurer<Extent = Plain>> Measurer for TwinMeasurer<
-    A,
-    B,
-> as TwinMeasuring {
+// The strip of the first beside the window of the second.
+fn beside(a: Plain, b: Plain) -> Twin
+    ensures { λ r. ⌜ r ≡ bothSides a b ⌝ }
+{
+    Twin {
+        strip: a.strip,
+        window: b.strip,
+    }
+}
+
+pub impl<A, B> Measurer for TwinMeasurer<A, B> as TwinMeasuring
+where
+    A: Measurer<Extent = Plain>,
+    B: Measurer<Extent = Plain>,
+{
     type Extent = Twin;
 
     ghost meaning = { λ m w. twinMeaning (A·Measurer .meaning (m .strip) w) (B·Measurer .meaning (m .window) w) };
@@ -34,25 +45,13 @@ pub impl<A: Measurer<Extent = Plain>, B: Measurer<Extent = Plain>> Measurer for 
         let strip = self.strip.word(bytes)?;
         let window = self.window.word(bytes)?;
         Ok(Metrics {
-            width: Twin {
-                strip: strip.width.strip,
-                window: window.width.strip,
-            },
-            height: Twin {
-                strip: strip.height.strip,
-                window: window.height.strip,
-            },
-            depth: Twin {
-                strip: strip.depth.strip,
-                window: window.depth.strip,
-            },
+            width: beside(strip.width, window.width),
+            height: beside(strip.height, window.height),
+            depth: beside(strip.depth, window.depth),
         })
     }
 
     fn space(&self) -> Twin {
-        Twin {
-            strip: self.strip.space().strip,
-            window: self.window.space().strip,
-        }
+        beside(self.strip.space(), self.window.space())
     }
 }

@@ -1,8 +1,8 @@
 ghost use Prim.Native.Nat.{_≤_};
 ghost use mathlib.Core.Path.{_≡_};
 ghost use lib.ListN.{length};
-ghost use Rattle.measure.specs.Words.{wordByte, wordLong, firstNot, unfit};
-ghost use Rattle.measure.specs.Asked.{measuredBy, Measured};
+ghost use Rattle.measure.specs.Words.{wordByte, wordLong, IsWord, firstNot, unfit};
+ghost use Rattle.measure.specs.Asked.{characterless, measuredBy, Measured};
 ghost use Rattle.measure.specs.Bounds.{Bounded};
 ghost use Rattle.std.specs.Results.{Cases};
 use crate::measurer::Measurer;
@@ -52,6 +52,7 @@ fn not_word(bytes: &[u8]) -> Option<Fault>
 // The metrics of any bytes: refused where they are no word, or have a byte without a character.
 pub fn measured<M: Measurer>(m: &M, word: &[u8]) -> Result<Metrics<M::Extent>, Fault>
     ensures answer { λ r. ⌜ r ≡ measuredBy (M·Measurer .meaning (now (m .entry))) (now (word .entry)) ⌝ }
+    ensures meant { λ r. ⌜ (IsWord (now (word .entry)) → r ≡ characterless (M·Measurer .meaning (now (m .entry)) (now (word .entry)))) ⌝ }
     ensures law { λ r. ⌜ Measured (M·Measurer .meaning (now (m .entry))) (now (word .entry)) r ⌝ }
     ensures within { λ r. ⌜ Cases r (Bounded (Extent·Extent .count) (Extent·Extent .num)) (λ f. f .place ≤ length (now (word .entry))) ⌝ }
 {

@@ -1,4 +1,4 @@
-use mathlib.Core.Path.{sym, _∙_}
+use mathlib.Core.Path.{sym}
 use Rattle.measure.specs.Words.{wordByte}
 use Rattle.measure.proofs.Firsts.{passed-more, first-here}
 use Rattle.measure.proofs.words.first_bad.Needs as need
