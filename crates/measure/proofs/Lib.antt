@@ -1,0 +1,4 @@
+pub mod Firsts
+pub mod Worded
+pub mod Pitched
+pub mod Twinned
