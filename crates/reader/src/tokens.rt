@@ -6,7 +6,8 @@ ghost use Prim.Native.Nat.{_+_, _≤_, _<_, _^_};
 ghost use lib.ListN.{length, drop};
 ghost use Rattle.std.specs.shelf.Lists.{leading};
 ghost use Rattle.std.specs.shelf.Text.{sameBytes};
-ghost use Rattle.reader.specs.Tokens.{afterBackslash, belongs, controlWord, escapable, firstSpelled, lettersOf, markOf, nameByte, spacesEnd, spelled, tokenAt, tokenOf, wordByte, wordOf};
+ghost use Rattle.reader.specs.Reads.{Alone, Letters-apart, Longest, Onward, Reads};
+ghost use Rattle.reader.specs.Tokens.{afterBackslash, belongs, blankByte, controlWord, escapable, firstSpelled, lettersOf, markOf, nameByte, spacesEnd, spelled, tokenAt, tokenOf, wordByte, wordOf};
 use crate::classes::Class;
 use crate::classes::class_of;
 use faults::Cause;
@@ -66,6 +67,7 @@ impl Control {
     // The letters of a control word.
     pub fn spelling(self) -> &'static [u8]
         ensures answer { λ r. ⌜ now r ≡ lettersOf self ⌝ }
+        ensures apart { λ _. ⌜ Letters-apart ⌝ }
     {
         match self {
             Control::Kern => b"kern",
@@ -249,6 +251,9 @@ fn first(s: &[u8], place: usize) -> Result<Lexeme, Fault>
 // The token at a place of a text, and the place behind it.
 pub fn token_at(text: &[u8], place: usize) -> Result<Lexeme, Fault>
     ensures answer { λ r. ⌜ r ≡ tokenAt (now (text .entry)) place ⌝ }
+    ensures law { λ r. ⌜ Reads (now (text .entry)) place r ⌝ }
+    ensures only { λ r. ⌜ Alone (now (text .entry)) place r ⌝ }
+    ensures onward { λ r. ⌜ Onward (now (text .entry)) place r ⌝ }
 {
     if place >= text.len() {
         return Ok(Lexeme {
@@ -262,6 +267,7 @@ pub fn token_at(text: &[u8], place: usize) -> Result<Lexeme, Fault>
 // The place behind the longest run of space bytes at a place.
 pub fn spaces_end(text: &[u8], place: usize) -> usize
     ensures answer { λ r. ⌜ r ≡ spacesEnd (now (text .entry)) place ⌝ }
+    ensures law { λ r. ⌜ Longest blankByte (now (text .entry)) place r ⌝ }
 {
     if place >= text.len() {
         return place;
