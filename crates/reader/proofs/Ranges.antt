@@ -9,7 +9,7 @@ use Rattle.std.proofs.shelf.Tests.{cases-bool, cond-true, cond-false, le-leb, l
 use Rattle.std.proofs.shelf.Ways.{decides-eqb, decides-or, decides-and, decides-not, not-from-decides}
 use Rattle.reader.specs.declared.classes.Class.{Class}
 use Rattle.reader.specs.declared.classes.Class.the-variants.{Bad, Space, Special, Letter, Other}
-use Rattle.reader.specs.Classes.{IsSpace, IsSpecial, IsLetter, InRange, IsShut, IsOther, Classed, within, spaceByte, specialByte, letterByte, rangeByte, shutByte, classOf}
+use Rattle.reader.specs.Classes.{IsSpace, IsSpecial, IsLetter, InRange, IsShut, Classed, within, spaceByte, specialByte, letterByte, rangeByte, shutByte, classOf}
 use Rattle.reader.specs.Tokens.{inWord, wordByte, nameByte, escapable}
 use Rattle.reader.specs.Reads.{IsEscapable}
 
@@ -40,18 +40,21 @@ decides-open b = decides-and _ _ (decides-within 33 126 b) (decides-not _ (decid
 pub classed : (b : ℕ) → Classed b (classOf b)
 classed b =
     elim (cases-bool (spaceByte b)) [
-      inl s ↦ subst (Classed b) (sym (cond-true _ _ _ s)) (decides-space b .0 s)
-    | inr s ↦ subst (Classed b) (sym (cond-false _ _ _ s)) (elim (cases-bool (specialByte b)) [
-        inl p ↦ subst (Classed b) (sym (cond-true _ _ _ p)) (decides-special b .0 p)
-      | inr p ↦ subst (Classed b) (sym (cond-false _ _ _ p)) (elim (cases-bool (letterByte b)) [
-          inl l ↦ subst (Classed b) (sym (cond-true _ _ _ l)) (decides-letter b .0 l)
-        | inr l ↦ subst (Classed b) (sym (cond-false _ _ _ l)) (elim (cases-bool (rangeByte b && not (shutByte b))) [
-            inl o ↦ subst (Classed b) (sym (cond-true _ _ _ o))
-              (let h : InRange b × (IsShut b → ⊥) = decides-open b .0 o in
-              (h .0, not-from-decides _ (decides-special b) p, not-from-decides _ (decides-letter b) l, h .1))
-          | inr o ↦ subst (Classed b) (sym (cond-false _ _ _ o))
-              (not-from-decides _ (decides-space b) s, not-from-decides _ (decides-special b) p, not-from-decides _ (decides-letter b) l,
-              λ h. not-from-decides _ (decides-open b) o (h .0, h .3))
+      | inl s ↦ subst (Classed b) (sym (cond-true _ _ _ s)) (decides-space b .0 s)
+      | inr s ↦ subst (Classed b) (sym (cond-false _ _ _ s)) (elim (cases-bool (specialByte b)) [
+        | inl p ↦ subst (Classed b) (sym (cond-true _ _ _ p)) (decides-special b .0 p)
+        | inr p ↦ subst (Classed b) (sym (cond-false _ _ _ p)) (elim (cases-bool (letterByte b)) [
+          | inl l ↦ subst (Classed b) (sym (cond-true _ _ _ l)) (decides-letter b .0 l)
+          | inr l ↦ subst (Classed b) (sym (cond-false _ _ _ l)) (elim (cases-bool (rangeByte b && not (shutByte b))) [
+            | inl o ↦ subst (Classed b) (sym (cond-true _ _ _ o))
+                (let h : InRange b × (IsShut b → ⊥) = decides-open b .0 o in
+                (h .0, not-from-decides _ (decides-special b) p, not-from-decides _ (decides-letter b) l, h .1))
+            | inr o ↦ subst (Classed b) (sym (cond-false _ _ _ o)) (
+              not-from-decides _ (decides-space b) s,
+              not-from-decides _ (decides-special b) p,
+              not-from-decides _ (decides-letter b) l,
+              λ h. not-from-decides _ (decides-open b) o (h .0, h .3),
+            )
           ])
         ])
       ])

@@ -33,15 +33,15 @@ module _ (text : List ℕ) (place : ℕ) where
       let far : e ≡ place + n = h .behind in
       let here : w ≡ place = h .here in
       let in′ : place + n ≤ length text = longest-inside wordByte text place (place + n) (omega arith) (h .run) in
-      record
-        { further = omega arith
-        ; inside = omega arith
-        ; from = omega arith
-        ; upto = omega arith
-        ; some = some
-        ; few = h .few
-        ; bytes = λ k lt. subst (λ (v : ℕ). InRange (getD text (v + k) 0)) (sym here) (word-in-range (getD text (place + k) 0) (h .run .all (place + k) (omega arith) (omega arith) .1))
-        }
+      record {
+        further = omega arith;
+        inside = omega arith;
+        from = omega arith;
+        upto = omega arith;
+        some = some;
+        few = h .few;
+        bytes = λ k lt. subst (λ (v : ℕ). InRange (getD text (v + k) 0)) (sym here) (word-in-range (getD text (place + k) 0) (h .run .all (place + k) (omega arith) (omega arith) .1));
+      }
 
   escaped-within : (w n e : ℕ) → EscapedWord text place w n e → WordWithin text place w n e
   escaped-within w n e h =
@@ -49,15 +49,15 @@ module _ (text : List ℕ) (place : ℕ) where
       let far : e ≡ place + 2 = h .behind in
       let here : w ≡ place + 1 = h .here in
       let in′ : place + 1 < length text = h .byte .0 in
-      record
-        { further = omega arith
-        ; inside = omega arith
-        ; from = omega arith
-        ; upto = omega arith
-        ; some = omega arith
-        ; few = omega arith
-        ; bytes = λ k lt. let at : place + 1 ≡ w + k = omega arith in subst (λ (v : ℕ). InRange (getD text v 0)) at (escapable-in-range (getD text (place + 1) 0) (h .byte .1))
-        }
+      record {
+        further = omega arith;
+        inside = omega arith;
+        from = omega arith;
+        upto = omega arith;
+        some = omega arith;
+        few = omega arith;
+        bytes = λ k lt. let at : place + 1 ≡ w + k = omega arith in subst (λ (v : ℕ). InRange (getD text v 0)) at (escapable-in-range (getD text (place + 1) 0) (h .byte .1));
+      }
 
   control-within : (c : Control) (e : ℕ) → ControlWord text place e c → Forward text place e
   control-within c e h =

@@ -1,9 +1,9 @@
 -- The definition of a token meets the relation, and nothing else does. Assumes nothing.
 use mathlib.Core.Path.{_≡_, refl, sym, ap, subst, _∙_}
-use mathlib.Core.Logic.{_⊎_, inl, inr}
-use mathlib.Core.Bool.{Bool, true, false, cond}
-use mathlib.Core.List.{List, [], _∷_}
-use Prim.Native.Nat.{ℕ, zero, suc, min, _+_, _-_, _≤_, _<_}
+use mathlib.Core.Logic.{inl, inr}
+use mathlib.Core.Bool.{Bool, true, cond}
+use mathlib.Core.List.{List, _∷_}
+use Prim.Native.Nat.{ℕ, min, _+_, _-_, _≤_, _<_}
 use native.Mathlib.Omega.{arith}
 use lib.Dec.{eqb, leb}
 use lib.ListN.{length, getD, take, drop}
@@ -13,12 +13,12 @@ use Rattle.std.specs.declared.option.Option.{Option}
 use Rattle.std.specs.declared.option.Option.the-variants.{Some, None}
 use Rattle.std.specs.declared.result.Result.{Result}
 use Rattle.std.specs.declared.result.Result.the-variants.{Ok, Err}
-use Rattle.std.proofs.shelf.Lists.{at-drop-more, at-drop-all, drop-more, drop-all, drop-drop, length-take}
+use Rattle.std.proofs.shelf.Lists.{at-drop-more, at-drop-all, drop-more, drop-drop, length-take}
 use Rattle.std.proofs.shelf.Sums.{leading-drop-yes}
 use Rattle.std.proofs.shelf.Tests.{cases-bool, cases-eq, cases-lt, cond-true, cond-false, false≢true, eq-eqb, ne-eqb, le-leb, lt-leb, leb-true, leb-false}
 use Rattle.std.proofs.shelf.Ways.{not-from-decides}
 use Rattle.faults.specs.declared.Fault.{Fault}
-use Rattle.faults.specs.declared.Cause.the-variants.{BadByte, UnknownControl, WordLength}
+use Rattle.faults.specs.declared.Cause.the-variants.{UnknownControl, WordLength}
 use Rattle.faults.specs.Faults.{faultAt}
 use Rattle.reader.specs.declared.classes.Class.{Class}
 use Rattle.reader.specs.declared.classes.Class.the-variants as class
@@ -27,11 +27,11 @@ use Rattle.reader.specs.declared.tokens.Token.{Token}
 use Rattle.reader.specs.declared.tokens.Token.the-variants as token
 use Rattle.reader.specs.declared.tokens.Lexeme.{Lexeme}
 use Rattle.reader.specs.Classes.{Classed, IsSpecial, classOf}
-use Rattle.reader.specs.Tokens.{inWord, inBlank, inLetters, wordByte, blankByte, nameByte, escapable, lettersOf, spelled, lexeme, controlled, controlWord, afterBackslash, wordOf, markOf, byClass, tokenOf, tokenAt}
+use Rattle.reader.specs.Tokens.{inWord, inBlank, wordByte, blankByte, nameByte, escapable, spelled, lexeme, controlled, controlWord, afterBackslash, wordOf, markOf, byClass, tokenOf, tokenAt}
 use Rattle.reader.specs.Reads.{Stands, Passes, Escapes, IsEscapable, Longest, PlainWord, EscapedWord, Names, ControlWord, TokenIs, Unknown, TooLong, Refused, Reads}
 use Rattle.reader.proofs.Ranges.{classed, decides-escapable, escapable-not-letter}
 use Rattle.reader.proofs.Runs.{leading-longest, longest-is}
-use Rattle.reader.proofs.Spellings.{spelled-letters, spelled-some, spelled-none, letters-some}
+use Rattle.reader.proofs.Spellings.{spelled-letters, spelled-some, letters-some}
 
 -- classes by the runs that they may stand in
 word-no-slash : (b : ℕ) → wordByte b ≡ true → b ≡ 92 → ⊥
@@ -138,10 +138,10 @@ module _ (text : List ℕ) (place : ℕ) where
       let n : ℕ = leading wordByte (drop place text) in
       let some : 1 ≤ n = leading-some wordByte h in
       elim (cases-bool (leb n 255)) [
-        inl t ↦ subst (Reads text place) (sym (cond-true _ _ _ t))
-          (inl (record { here = refl; some = some; few = leb-true n 255 t; run = leading-longest wordByte text place; behind = refl }))
-      | inr t ↦ subst (Reads text place) (sym (cond-false _ _ _ t))
-          (inr (inr (refl, (place + n, leading-longest wordByte text place, omega (arith, leb-false n 255 t)))))
+        | inl t ↦ subst (Reads text place) (sym (cond-true _ _ _ t))
+            (inl (record { here = refl; some = some; few = leb-true n 255 t; run = leading-longest wordByte text place; behind = refl }))
+        | inr t ↦ subst (Reads text place) (sym (cond-false _ _ _ t))
+            (inr (inr (refl, (place + n, leading-longest wordByte text place, omega (arith, leb-false n 255 t)))))
       ]
 
   mark-reads : place < length text → (getD text place 0 ≡ 92 → ⊥) → IsSpecial (getD text place 0) → Reads text place (lexeme (markOf (getD text place 0)) (place + 1))
@@ -171,10 +171,10 @@ module _ (text : List ℕ) (place : ℕ) where
   slash-reads : Stands 92 text place → Reads text place (afterBackslash (drop (place + 1) text) place)
   slash-reads h =
       elim (cases-lt (place + 1) (length text)) [
-        inr over ↦ subst (Reads text place) (sym (slash-last over)) (last-reads h over)
-      | inl lt ↦ subst (Reads text place) (sym (slash-next lt)) (elim (cases-bool (escapable (getD text (place + 1) 0))) [
-          inl t ↦ subst (Reads text place) (sym (cond-true _ _ _ t)) (inr (record { slash = h; byte = (lt, decides-escapable _ .0 t); here = refl; one = refl; behind = refl }))
-        | inr t ↦ subst (Reads text place) (sym (cond-false _ _ _ t ∙ control-at)) (control-reads (spelled name) h (λ x. not-from-decides _ (decides-escapable (getD text (place + 1) 0)) t (x .1)) refl)
+        | inr over ↦ subst (Reads text place) (sym (slash-last over)) (last-reads h over)
+        | inl lt ↦ subst (Reads text place) (sym (slash-next lt)) (elim (cases-bool (escapable (getD text (place + 1) 0))) [
+          | inl t ↦ subst (Reads text place) (sym (cond-true _ _ _ t)) (inr (record { slash = h; byte = (lt, decides-escapable _ .0 t); here = refl; one = refl; behind = refl }))
+          | inr t ↦ subst (Reads text place) (sym (cond-false _ _ _ t ∙ control-at)) (control-reads (spelled name) h (λ x. not-from-decides _ (decides-escapable (getD text (place + 1) 0)) t (x .1)) refl)
         ])
       ]
 
@@ -182,10 +182,10 @@ module _ (text : List ℕ) (place : ℕ) where
   pub reads : Reads text place (tokenAt text place)
   reads =
       elim (cases-lt place (length text)) [
-        inr over ↦ subst (Reads text place) (sym (at-end over)) (over, refl)
-      | inl lt ↦ elim (cases-eq (getD text place 0) 92) [
-          inl e ↦ subst (Reads text place) (sym (at-slash (lt, e))) (slash-reads (lt, e))
-        | inr ne ↦ subst (Reads text place) (sym (at-class _ lt ne refl)) (class-reads _ lt ne refl)
+        | inr over ↦ subst (Reads text place) (sym (at-end over)) (over, refl)
+        | inl lt ↦ elim (cases-eq (getD text place 0) 92) [
+          | inl e ↦ subst (Reads text place) (sym (at-slash (lt, e))) (slash-reads (lt, e))
+          | inr ne ↦ subst (Reads text place) (sym (at-class _ lt ne refl)) (class-reads _ lt ne refl)
         ]
       ]
 
@@ -214,8 +214,8 @@ module _ (text : List ℕ) (place : ℕ) where
   slash-control : Stands 92 text place → place + 1 < length text → (IsEscapable (getD text (place + 1) 0) → ⊥) → tokenAt text place ≡ controlled (spelled name) place spacesBehind
   slash-control h lt bare =
       elim (cases-bool (escapable (getD text (place + 1) 0))) [
-        inl t ↦ absurd (bare (decides-escapable (getD text (place + 1) 0) .0 t))
-      | inr t ↦ at-slash h ∙ (slash-next lt ∙ (cond-false _ _ _ t ∙ control-at))
+        | inl t ↦ absurd (bare (decides-escapable (getD text (place + 1) 0) .0 t))
+        | inr t ↦ at-slash h ∙ (slash-next lt ∙ (cond-false _ _ _ t ∙ control-at))
       ]
 
   control-is : (c : Control) (e : ℕ) → ControlWord text place e c → lexeme (token.Control c) e ≡ tokenAt text place
@@ -255,8 +255,8 @@ module _ (text : List ℕ) (place : ℕ) where
   unknown-is : Unknown text place → Err (faultAt UnknownControl place) ≡ tokenAt text place
   unknown-is h =
       elim (cases-lt (place + 1) (length text)) [
-        inr over ↦ sym (at-slash (h .slash) ∙ slash-last over)
-      | inl lt ↦ unknown-none h (spelled name) refl ∙ sym (slash-control (h .slash) lt (λ t. h .bare (lt, t)))
+        | inr over ↦ sym (at-slash (h .slash) ∙ slash-last over)
+        | inl lt ↦ unknown-none h (spelled name) refl ∙ sym (slash-control (h .slash) lt (λ t. h .bare (lt, t)))
       ]
 
   long-is : TooLong text place → Err (faultAt WordLength place) ≡ tokenAt text place

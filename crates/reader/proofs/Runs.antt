@@ -1,15 +1,14 @@
 -- The longest run at a place, as a relation, and the front that passes. Assumes nothing.
 use mathlib.Core.Path.{_≡_, refl, sym, ap, subst, _∙_}
 use mathlib.Core.Logic.{inl, inr}
-use mathlib.Core.Bool.{Bool, true, false, cond}
+use mathlib.Core.Bool.{Bool, true}
 use mathlib.Core.List.{List, [], _∷_}
 use Prim.Native.Nat.{ℕ, zero, suc, _+_, _-_, _≤_, _<_}
 use native.Mathlib.Numerals.{one-add}
 use native.Mathlib.Omega.{arith}
-use lib.ListN.{length, getD, drop}
+use lib.ListN.{getD, drop}
 use Rattle.std.specs.shelf.Lists.{leading}
 use Rattle.std.proofs.shelf.Lists.{getD-drop, length-drop}
-use Rattle.std.proofs.shelf.Sums.{leading-le-length}
 use Rattle.std.proofs.shelf.Tests.{cases-bool, cases-order, cond-true, cond-false, both-ways}
 use Rattle.reader.specs.Reads.{Passes, Longest}
 
@@ -31,9 +30,9 @@ module _ (p : ℕ → Bool) where
   front-longest [] = record { onto = omega arith; all = λ k low lt. absurd (omega arith); stops = λ x. omega arith }
   front-longest (b ∷ s) =
       elim (cases-bool (p b)) [
-        inl t ↦ subst (Longest p (b ∷ s) 0) (sym (cond-true (p b) (1 + leading p s) 0 t ∙ one-add (leading p s))) (one-longer b s (leading p s) t (front-longest s))
-      | inr t ↦ subst (Longest p (b ∷ s) 0) (sym (cond-false (p b) (1 + leading p s) 0 t))
-          (record { onto = omega arith; all = λ k low lt. absurd (omega arith); stops = λ x. both-ways (p b) t (x .1) })
+        | inl t ↦ subst (Longest p (b ∷ s) 0) (sym (cond-true (p b) (1 + leading p s) 0 t ∙ one-add (leading p s))) (one-longer b s (leading p s) t (front-longest s))
+        | inr t ↦ subst (Longest p (b ∷ s) 0) (sym (cond-false (p b) (1 + leading p s) 0 t))
+            (record { onto = omega arith; all = λ k low lt. absurd (omega arith); stops = λ x. both-ways (p b) t (x .1) })
       ]
 
   -- a text from a place
@@ -48,19 +47,19 @@ module _ (p : ℕ → Bool) where
   pub leading-longest : (text : List ℕ) (a : ℕ) → Longest p text a (a + leading p (drop a text))
   leading-longest text a =
       let h : Longest p (drop a text) 0 (leading p (drop a text)) = front-longest (drop a text) in
-      record
-        { onto = omega arith
-        ; all = λ k low lt. passes-at text a (k - a) k (omega arith) (h .all (k - a) (omega arith) (omega arith))
-        ; stops = λ x. h .stops (passes-from text a (leading p (drop a text)) _ refl x)
-        }
+      record {
+        onto = omega arith;
+        all = λ k low lt. passes-at text a (k - a) k (omega arith) (h .all (k - a) (omega arith) (omega arith));
+        stops = λ x. h .stops (passes-from text a (leading p (drop a text)) _ refl x);
+      }
 
   -- there is one longest run at a place
   pub longest-one : (text : List ℕ) (a e f : ℕ) → Longest p text a e → Longest p text a f → e ≡ f
   longest-one text a e f h g =
       elim (cases-order e f) [
-        inl same ↦ same
-      | inr (inl lt) ↦ absurd (h .stops (g .all e (h .onto) lt))
-      | inr (inr gt) ↦ absurd (g .stops (h .all f (g .onto) gt))
+        | inl same ↦ same
+        | inr (inl lt) ↦ absurd (h .stops (g .all e (h .onto) lt))
+        | inr (inr gt) ↦ absurd (g .stops (h .all f (g .onto) gt))
       ]
 
   pub longest-is : (text : List ℕ) (a e : ℕ) → Longest p text a e → e ≡ a + leading p (drop a text)

@@ -8,7 +8,6 @@ use native.Mathlib.Omega.{arith}
 use lib.Dec.{lit≤}
 use lib.ListN.{length, getD, drop}
 use Rattle.std.specs.shelf.Text.{sameBytes}
-use Rattle.std.specs.declared.option.Option.{Option}
 use Rattle.std.specs.declared.option.Option.the-variants.{Some, None}
 use Rattle.std.proofs.shelf.Lists.{at-drop-more, at-drop-all}
 use Rattle.std.proofs.shelf.Equals.{sameBytes-decides}
@@ -16,6 +15,7 @@ use Rattle.std.proofs.shelf.Tests.{cases-bool, cond-true, cond-false}
 use Rattle.reader.specs.declared.tokens.Control.{Control}
 use Rattle.reader.specs.declared.tokens.Control.the-variants.{Kern, Hfil, Tabskip, Cr, Omit, Span, Noalign, Hrule, Vskip}
 use Rattle.reader.specs.Tokens.{lettersOf, controls, firstSpelled, spelled}
+use Rattle.reader.specs.Reads.{Letters-apart}
 
 -- one step of the search through some control words
 module _ (l : List ℕ) (cs : List Control) (i : ℕ) (d : Control) (lt : i < length cs) where
@@ -45,7 +45,7 @@ spelled-letters Hrule = refl
 spelled-letters Vskip = refl
 
 -- .. so no two control words have the same letters
-pub letters-one : (c d : Control) → lettersOf c ≡ lettersOf d → c ≡ d
+pub letters-one : Letters-apart
 letters-one c d same =
     let known : Some c ≡ Some d = sym (spelled-letters c) ∙ (ap spelled same ∙ spelled-letters d) in
     cc
@@ -55,21 +55,17 @@ unfolding firstSpelled
 first-some l [] c h = let z : _≡_ {A = ℕ} 0 1 = cc in absurd (omega arith)
 first-some l (x ∷ xs) c h =
     elim (cases-bool (sameBytes l (lettersOf x))) [
-      inl t ↦
-        let here : Some x ≡ Some c = sym (cond-true _ _ _ t) ∙ h in
-        let same : x ≡ c = cc in
-        sameBytes-decides l (lettersOf x) .0 t ∙ ap lettersOf same
-    | inr t ↦ first-some l xs c (sym (cond-false _ _ _ t) ∙ h)
+      | inl t ↦
+          let here : Some x ≡ Some c = sym (cond-true _ _ _ t) ∙ h in
+          let same : x ≡ c = cc in
+          sameBytes-decides l (lettersOf x) .0 t ∙ ap lettersOf same
+      | inr t ↦ first-some l xs c (sym (cond-false _ _ _ t) ∙ h)
     ]
 
 -- what a control word is named by are its letters
 pub spelled-some : (l : List ℕ) (c : Control) → spelled l ≡ Some c → l ≡ lettersOf c
 unfolding spelled
 spelled-some l c h = first-some l controls c h
-
-pub spelled-none : spelled [] ≡ None
-unfolding spelled firstSpelled
-spelled-none = refl
 
 pub letters-some : (c : Control) → 1 ≤ length (lettersOf c)
 letters-some Kern = lit≤ tt
