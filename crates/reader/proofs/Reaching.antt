@@ -15,8 +15,9 @@ use Rattle.reader.specs.declared.tokens.Token.{Token}
 use Rattle.reader.specs.declared.tokens.Token.the-variants as token
 use Rattle.reader.specs.declared.tokens.Lexeme.{Lexeme}
 use Rattle.reader.specs.Classes.{InRange}
-use Rattle.reader.specs.Tokens.{wordByte}
+use Rattle.reader.specs.Tokens.{wordByte, tokenAt}
 use Rattle.reader.specs.Reads.{Longest, PlainWord, EscapedWord, ControlWord, Mark, TokenIs, Reads, Forward, WordWithin, Reaches, Onward}
+use Rattle.reader.proofs.Reading.{reads}
 use Rattle.reader.proofs.Ranges.{word-in-range, escapable-in-range}
 
 pub longest-inside : (p : ℕ → Bool) (text : List ℕ) (a e : ℕ) → a < e → Longest p text a e → e ≤ length text
@@ -84,3 +85,7 @@ module _ (text : List ℕ) (place : ℕ) where
   reads-onward (Err f) (inl h) = (ap (λ (g : Fault). g .place) (h .0), h .1 .0)
   reads-onward (Err f) (inr (inl h)) = (ap (λ (g : Fault). g .place) (h .0), h .1 .slash .0)
   reads-onward (Err f) (inr (inr h)) = (ap (λ (g : Fault). g .place) (h .0), h .1 .1 .all place (omega arith) (omega (arith, h .1 .2)) .0)
+
+-- how far the definition's token reaches
+pub token-onward : (text : List ℕ) (place : ℕ) → Onward text place (tokenAt text place)
+token-onward text place = reads-onward text place (tokenAt text place) (reads text place)

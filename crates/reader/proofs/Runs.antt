@@ -10,6 +10,7 @@ use lib.ListN.{getD, drop}
 use Rattle.std.specs.shelf.Lists.{leading}
 use Rattle.std.proofs.shelf.Lists.{getD-drop, length-drop}
 use Rattle.std.proofs.shelf.Tests.{cases-bool, cases-order, cond-true, cond-false, both-ways}
+use Rattle.reader.specs.Tokens.{blankByte, spacesEnd}
 use Rattle.reader.specs.Reads.{Passes, Longest}
 
 module _ (p : ℕ → Bool) where
@@ -64,3 +65,8 @@ module _ (p : ℕ → Bool) where
 
   pub longest-is : (text : List ℕ) (a e : ℕ) → Longest p text a e → e ≡ a + leading p (drop a text)
   longest-is text a e h = longest-one text a e _ h (leading-longest text a)
+
+-- the run of spaces at a place
+pub spaces-longest : (text : List ℕ) (place : ℕ) → Longest blankByte text place (spacesEnd text place)
+unfolding spacesEnd
+spaces-longest text place = leading-longest blankByte text place

@@ -8,7 +8,7 @@ use Rattle.reader.specs.declared.tokens.Lexeme.{Lexeme}
 use Rattle.reader.specs.Reads.{Reads, Alone, Onward}
 use Rattle.reader.specs.Tokens.{tokenAt, tokenOf}
 use Rattle.reader.proofs.Reading.{reads, reads-one}
-use Rattle.reader.proofs.Reaching.{reads-onward}
+use Rattle.reader.proofs.Reaching.{token-onward}
 use Rattle.reader.proofs.tokens.token_at.Needs as need
 
 module _ (text : List ℕ) (place : ℕ) (r : Result Lexeme Fault) (is : r ≡ tokenAt text place) where
@@ -19,7 +19,7 @@ module _ (text : List ℕ) (place : ℕ) (r : Result Lexeme Fault) (is : r ≡ t
   only-of s h = reads-one text place s h ∙ sym is
 
   onward-of : Onward text place r
-  onward-of = reads-onward text place r law-of
+  onward-of = subst (Onward text place) (sym is) (token-onward text place)
 
 pub returns-then-place-text : need.returns-then-place-text
 unfolding tokenAt
