@@ -1,3 +1,5 @@
 pub mod Rounding
 pub mod Runs
 pub mod Spells
+pub mod Fronts
+pub mod Units

@@ -1,2 +1,5 @@
 pub mod Fractions
 pub mod Amounts
+pub mod Orders
+pub mod Dimens
+pub mod Gaps

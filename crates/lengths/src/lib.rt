@@ -1,3 +1,6 @@
 //! Lengths and stretches as a manuscript spells them, in 65,536ths of a point.
 mod amount;
+mod dimen;
 mod fraction;
+pub mod gap;
+pub mod order;
