@@ -3,3 +3,4 @@ pub mod Runs
 pub mod Spells
 pub mod Fronts
 pub mod Units
+pub mod Signs

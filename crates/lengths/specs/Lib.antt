@@ -3,3 +3,4 @@ pub mod Amounts
 pub mod Orders
 pub mod Dimens
 pub mod Gaps
+pub mod Lengths

@@ -3,4 +3,5 @@ mod amount;
 mod dimen;
 mod fraction;
 pub mod gap;
+pub mod length;
 pub mod order;

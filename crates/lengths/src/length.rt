@@ -1,0 +1,44 @@
+//! Lengths: an optional minus, an amount, and `pt`.
+ghost use mathlib.Core.Path.{_≡_};
+ghost use Prim.Native.Nat.{_+_, _≤_};
+ghost use lib.IntN.{pos, negsuc};
+ghost use lib.Signed.{_≤ℤ_};
+ghost use lib.ListN.{length};
+ghost use Rattle.std.specs.Slices.{found};
+ghost use Rattle.lengths.specs.Lengths.{pointsOf, lengthOf};
+
+use crate::dimen::Dimen;
+use crate::dimen::dimen_in;
+use crate::order::Order;
+
+// A length in 65,536ths of a point, and the place behind it and the one space byte that it swallows.
+#[derive(Clone, Copy, PartialEq, Eq, Debug)]
+pub struct Length {
+    pub sp: i64,
+    pub end: usize,
+}
+
+// The length without a sign at the start of the bytes, with its end counted from there.
+fn points_in(s: &[u8]) -> Option<Length>
+    ensures is { λ r. ⌜ r ≡ pointsOf (now (s .entry)) ⌝ }
+    ensures inside { λ r. ⌜ found r (λ l. (pos 0 ≤ℤ l .sp) × (l .sp ≤ℤ pos 16777215) × (1 ≤ l .end) × (l .end ≤ length (now (s .entry)))) ⌝ }
+{
+    match dimen_in(s) {
+        Some(Dimen { size, order: Order::Points, len }) => Some(Length { sp: size as i64, end: len }),
+        _ => None,
+    }
+}
+
+// The length at the start of the bytes, with its end counted from there. A minus turns the rounded amount.
+fn length_in(s: &[u8]) -> Option<Length>
+    ensures is { λ r. ⌜ r ≡ lengthOf (now (s .entry)) ⌝ }
+    ensures inside { λ r. ⌜ found r (λ l. (negsuc 16777214 ≤ℤ l .sp) × (l .sp ≤ℤ pos 16777215) × (1 ≤ l .end) × (l .end ≤ length (now (s .entry)))) ⌝ }
+{
+    match s {
+        [b'-', tail @ ..] => {
+            let l = points_in(tail)?;
+            Some(Length { sp: -l.sp, end: 1 + l.end })
+        }
+        _ => points_in(s),
+    }
+}
