@@ -4,3 +4,5 @@ pub mod Spells
 pub mod Fronts
 pub mod Units
 pub mod Signs
+pub mod Missing
+pub mod Places

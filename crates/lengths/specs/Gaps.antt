@@ -13,8 +13,11 @@ pub record Parts : Type 0 where
   pub stretch : ℤ
   pub order : Order
 
+abbrev pub parts : ℤ → ℤ → Order → Parts
+parts n s o = record { natural = n; stretch = s; order = o }
+
 abbrev pub partsOf : Gap → Parts
-partsOf g = record { natural = g .natural; stretch = g .stretch; order = g .order }
+partsOf g = parts (g .natural) (g .stretch) (g .order)
 
 -- within ±16,777,215
 abbrev pub naturalFits : ℤ → Bool
@@ -26,7 +29,7 @@ stretchFits z = leZ (pos 0) z && leZ z (pos 16777215)
 
 abbrev pub ofOrder : ℤ → ℤ → Option Order → Option Parts
 ofOrder natural stretch None = None
-ofOrder natural stretch (Some o) = cond (naturalFits natural && stretchFits stretch) (Some (record { natural = natural; stretch = stretch; order = o })) None
+ofOrder natural stretch (Some o) = cond (naturalFits natural && stretchFits stretch) (Some (parts natural stretch o)) None
 
 -- the parts of a gap that is made of three numbers
 abbrev pub gapOf : ℤ → ℤ → ℤ → Option Parts

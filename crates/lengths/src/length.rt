@@ -5,11 +5,14 @@ ghost use lib.IntN.{pos, negsuc};
 ghost use lib.Signed.{_≤ℤ_};
 ghost use lib.ListN.{length};
 ghost use Rattle.std.specs.Slices.{found};
-ghost use Rattle.lengths.specs.Lengths.{pointsOf, lengthOf};
+ghost use Rattle.lengths.specs.Lengths.{pointsOf, lengthOf, missingAt, lengthAt};
 
 use crate::dimen::Dimen;
 use crate::dimen::dimen_in;
 use crate::order::Order;
+use faults::Cause;
+use faults::Fault;
+use reader::tokens::token_at;
 
 // A length in 65,536ths of a point, and the place behind it and the one space byte that it swallows.
 #[derive(Clone, Copy, PartialEq, Eq, Debug)]
@@ -41,4 +44,33 @@ fn length_in(s: &[u8]) -> Option<Length>
         }
         _ => points_in(s),
     }
+}
+
+// The fault where a length or a stretch has to stand and none does: that of the byte or of the control word
+// that stands there instead, if it is bad or unknown.
+pub(crate) fn missing(text: &[u8], place: usize) -> Fault
+    ensures { λ r. ⌜ r ≡ missingAt (now (text .entry)) place ⌝ }
+{
+    if place >= text.len() {
+        return Cause::BadLength.at(text.len());
+    }
+    match token_at(text, place) {
+        Err(fault) => match fault.cause {
+            Cause::BadByte | Cause::UnknownControl => fault,
+            _ => Cause::BadLength.at(place),
+        },
+        Ok(_) => Cause::BadLength.at(place),
+    }
+}
+
+// The length at a place of a text.
+pub fn length_at(text: &[u8], place: usize) -> Result<Length, Fault>
+    ensures answer { λ r. ⌜ r ≡ lengthAt (now (text .entry)) place ⌝ }
+{
+    if place < text.len() {
+        if let Some(l) = length_in(&text[place..]) {
+            return Ok(Length { sp: l.sp, end: place + l.end });
+        }
+    }
+    Err(missing(text, place))
 }

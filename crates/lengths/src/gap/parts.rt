@@ -1,12 +1,21 @@
 //! A gap's parts, and the one place where a gap is made.
 ghost use mathlib.Core.Path.{_≡_};
+ghost use mathlib.Core.Bool.{true};
 ghost use Rattle.std.specs.Options.{mapped};
-ghost use Rattle.lengths.specs.Gaps.{partsOf, gapOf};
+ghost use Rattle.lengths.specs.Gaps.{parts, partsOf, naturalFits, stretchFits, gapOf};
 
 use crate::gap::Gap;
 use crate::order::Order;
 
 impl Gap {
+    // The gap of parts that are in their ranges.
+    pub(crate) fn of(natural: i64, stretch: i64, order: Order) -> Gap
+        requires { ⌜ naturalFits natural ≡ true ⌝ ∗ ⌜ stretchFits stretch ≡ true ⌝ }
+        ensures answer { λ r. ⌜ partsOf r ≡ parts natural stretch order ⌝ }
+    {
+        Gap { natural, stretch, order }
+    }
+
     // A gap of these parts, or nothing where a number is out of its range.
     pub fn new(natural: i64, stretch: i64, order: i64) -> Option<Gap>
         ensures answer { λ r. ⌜ mapped partsOf r ≡ gapOf natural stretch order ⌝ }
@@ -18,7 +27,7 @@ impl Gap {
         if stretch < 0 || stretch > 16_777_215 {
             return None;
         }
-        Some(Gap { natural, stretch, order })
+        Some(Gap::of(natural, stretch, order))
     }
 
     pub fn natural(self) -> i64

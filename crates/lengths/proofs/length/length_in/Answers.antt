@@ -1,15 +1,14 @@
 use mathlib.Core.Path.{_≡_, sym, ap, _∙_}
-use Prim.Native.Nat.{_+_, _<_}
-use lib.IntN.{ℤ, pos, _-ℤ_, negℤ}
+use Prim.Native.Nat.{_<_}
+use lib.IntN.{pos, _-ℤ_, negℤ}
 use lib.ListN.{length, getD}
 use mir.Syntax.{w64}
 use mir.Val.{toZ, ofZ}
 use native.Mathlib.Omega.{arith}
 use borrow.Author.Needs.{needs}
-use Rattle.std.specs.declared.option.Option.the-variants.{Some}
 use Rattle.std.proofs.shelf.Signed.{ints}
 use Rattle.lengths.specs.Lengths.{turned}
-use Rattle.lengths.proofs.Signs.{minus-is}
+use Rattle.lengths.proofs.Signs.{minus-is, turned-is}
 use Rattle.lengths.proofs.Spells.{length-behind}
 use Rattle.lengths.proofs.length.length_in.Needs as need
 
@@ -31,6 +30,6 @@ returns-in-Continue-l c =
     let behind = length-behind (c .args .s .now) some in
     let value : toZ w64 (ofZ w64 (pos 0 -ℤ toZ w64 (ofZ w64 (l .sp)))) ≡ negℤ (l .sp) = omega (arith, ints) in
     record {
-      is = ap (λ (z : ℤ). Some (record { sp = z; end = 1 + l .end })) value ∙ ap turned (told .is) ∙ minus-is (c .args .s .now) some minus;
+      is = turned-is (c .args .s .now) l _ some minus value (told .is);
       inside = (omega (arith, ints), omega (arith, ints), omega arith, omega (arith, told .inside .3));
     }

@@ -1,0 +1,24 @@
+-- Lengths at a place of a text. Assumes nothing.
+use mathlib.Core.Path.{_≡_, refl, sym, ap, _∙_}
+use mathlib.Core.List.{List, []}
+use Prim.Native.Nat.{ℕ, _+_, _-_, _≤_}
+use lib.IntN.{ℤ}
+use lib.ListN.{length, take, drop}
+use Rattle.std.specs.declared.option.Option.the-variants.{Some, None}
+use Rattle.std.specs.declared.result.Result.the-variants.{Ok, Err}
+use Rattle.std.proofs.shelf.Lists.{take-rest, drop-all}
+use Rattle.lengths.specs.declared.length.Length.{Length}
+use Rattle.lengths.specs.Lengths.{lengthOf, missingAt, placed, lengthAt}
+
+module _ (text : List ℕ) (place : ℕ) where
+  pub length-there : (l : Length) → Some l ≡ lengthOf (take (length text - place) (drop place text)) → Ok (record { sp = l .sp; end = place + l .end }) ≡ lengthAt text place
+  unfolding lengthAt
+  length-there l e = ap (placed text place) (e ∙ ap lengthOf (take-rest text place))
+
+  pub length-none : None ≡ lengthOf (take (length text - place) (drop place text)) → Err (missingAt text place) ≡ lengthAt text place
+  unfolding lengthAt
+  length-none e = ap (placed text place) (e ∙ ap lengthOf (take-rest text place))
+
+  pub length-past : length text ≤ place → Err (missingAt text place) ≡ lengthAt text place
+  unfolding lengthAt
+  length-past over = ap (λ (s : List ℕ). placed text place (lengthOf s)) (sym (drop-all place text over))
