@@ -6,3 +6,4 @@ pub mod Units
 pub mod Signs
 pub mod Missing
 pub mod Places
+pub mod Glueing

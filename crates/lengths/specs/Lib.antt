@@ -4,3 +4,4 @@ pub mod Orders
 pub mod Dimens
 pub mod Gaps
 pub mod Lengths
+pub mod Glues

@@ -3,5 +3,6 @@ mod amount;
 mod dimen;
 mod fraction;
 pub mod gap;
+pub mod glue;
 pub mod length;
 pub mod order;

@@ -1,6 +1,8 @@
 //! A gap's parts, and the one place where a gap is made.
 ghost use mathlib.Core.Path.{_≡_};
 ghost use mathlib.Core.Bool.{true};
+ghost use lib.IntN.{pos, negsuc};
+ghost use lib.Signed.{_≤ℤ_};
 ghost use Rattle.std.specs.Options.{mapped};
 ghost use Rattle.lengths.specs.Gaps.{parts, partsOf, naturalFits, stretchFits, gapOf};
 
@@ -32,12 +34,14 @@ impl Gap {
 
     pub fn natural(self) -> i64
         ensures answer { λ r. ⌜ r ≡ partsOf self .natural ⌝ }
+        ensures within { λ r. ⌜ (negsuc 16777214 ≤ℤ r) × (r ≤ℤ pos 16777215) ⌝ }
     {
         self.natural
     }
 
     pub fn stretch(self) -> i64
         ensures answer { λ r. ⌜ r ≡ partsOf self .stretch ⌝ }
+        ensures within { λ r. ⌜ (pos 0 ≤ℤ r) × (r ≤ℤ pos 16777215) ⌝ }
     {
         self.stretch
     }

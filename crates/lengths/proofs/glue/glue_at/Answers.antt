@@ -1,0 +1,61 @@
+use mathlib.Core.Path.{_≡_, sym, ap, _∙_}
+use mathlib.Core.Bool.{true, false}
+use mathlib.Core.List.{List}
+use Prim.Native.Nat.{ℕ, _+_}
+use lib.Chars.{codes}
+use lib.IntN.{ℤ, pos}
+use lib.ListN.{drop}
+use mir.Syntax.{w64}
+use mir.Val.{toZ, ofZ}
+use native.Mathlib.Omega.{arith}
+use borrow.Author.Needs.{needs}
+use Rattle.std.specs.declared.result.Result.the-variants.{Ok, Err}
+use Rattle.std.proofs.shelf.Lists.{take-rest}
+use Rattle.std.proofs.shelf.Results.{err-from-errBy}
+use Rattle.std.proofs.shelf.Signed.{ints}
+use Rattle.lengths.specs.declared.order.Order.the-variants.{Points}
+use Rattle.lengths.specs.Dimens.{beginsWith}
+use Rattle.lengths.specs.Gaps.{parts}
+use Rattle.lengths.proofs.Glueing.{glue-refused, glue-plain, glue-short, glue-stretched}
+use Rattle.lengths.proofs.glue.glue_at.Needs as need
+
+pub returns-in-Break-length : need.returns-in-Break-length
+returns-in-Break-length c =
+    let p = err-from-errBy (c .from-residual .result) (c .from-residual .ensures .1) in
+    rw (p .1, p .2) (record { answer = glue-refused (c .args .text .now) (c .args .place) (c .in-Break-length .field-0 .0) (c .in-Break-length .ensures tt .answer) })
+
+pub returns-in-Break-stretch : need.returns-in-Break-stretch
+returns-in-Break-stretch c =
+    let p = err-from-errBy (c .from-residual-in-Break-stretch .result) (c .from-residual-in-Break-stretch .ensures .1) in
+    let l = c .in-Continue-length .length in
+    let text = c .args .text .now in
+    rw (p .1, p .2) (record {
+      answer = glue-short text (c .args .place) l (c .in-Continue-length .ensures tt .answer) (c .spaces-end .result) (c .spaces-end .ensures .answer)
+      (c .if-begins .ensures tt .is ∙ ap (beginsWith (codes "plus")) (take-rest text (l .end)))
+      (c .in-Break-stretch .field-0 .0) (c .in-Break-stretch .ensures tt .is);
+    })
+
+pub returns-in-Continue-stretch : need.returns-in-Continue-stretch
+returns-in-Continue-stretch c =
+    let l = c .in-Continue-length .length in
+    let s = c .in-Continue-stretch .stretch in
+    let text = c .args .text .now in
+    let natural : toZ w64 (ofZ w64 (l .sp)) ≡ l .sp = omega (arith, ints, c .in-Continue-length .ensures tt .within .0, c .in-Continue-length .ensures tt .within .1) in
+    let stretch : toZ w64 (ofZ w64 (s .size)) ≡ s .size = omega (arith, ints, c .in-Continue-stretch .ensures tt .inside .0, c .in-Continue-stretch .ensures tt .inside .1) in
+    record {
+      answer = glue-stretched text (c .args .place) l (c .in-Continue-length .ensures tt .answer) (c .spaces-end .result) (c .spaces-end .ensures .answer)
+      (c .if-begins .ensures tt .is ∙ ap (beginsWith (codes "plus")) (take-rest text (l .end)))
+      s _ (c .of-gap .ensures .answer ∙ ap (λ (z : ℤ). parts z (toZ w64 (ofZ w64 (s .size))) (s .order)) natural ∙ ap (λ (z : ℤ). parts (l .sp) z (s .order)) stretch)
+      (c .in-Continue-stretch .ensures tt .is);
+    }
+
+pub returns-else-begins : need.returns-else-begins
+returns-else-begins c =
+    let l = c .in-Continue-length .length in
+    let text = c .args .text .now in
+    let natural : toZ w64 (ofZ w64 (l .sp)) ≡ l .sp = omega (arith, ints, c .in-Continue-length .ensures tt .within .0, c .in-Continue-length .ensures tt .within .1) in
+    record {
+      answer = glue-plain text (c .args .place) l (c .in-Continue-length .ensures tt .answer)
+      _ (c .of-gap-else-begins .ensures .answer ∙ ap (λ (z : ℤ). parts z (pos 0) Points) natural)
+      (c .if-begins .ensures tt .is ∙ ap (beginsWith (codes "plus")) (take-rest text (l .end)));
+    }
