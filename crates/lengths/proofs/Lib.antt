@@ -7,3 +7,5 @@ pub mod Signs
 pub mod Missing
 pub mod Places
 pub mod Glueing
+pub mod Complete
+pub mod Sound

@@ -11,7 +11,7 @@ use Rattle.lengths.specs.Fractions.{scaled, rounded, numeral, Nearest}
 abbrev digit : ℕ → ℕ
 digit d = d - 48
 
-ten-pos : (k : ℕ) → 0 < 10 ^ k
+pub ten-pos : (k : ℕ) → 0 < 10 ^ k
 ten-pos k = one-le-pow k 10 (omega arith)
 
 moved : (n d p w : ℕ) → (n * 10 + d) * p + w ≡ n * (p * 10) + ((0 * 10 + d) * p + w)

@@ -5,3 +5,4 @@ pub mod Dimens
 pub mod Gaps
 pub mod Lengths
 pub mod Glues
+pub mod Spelling
