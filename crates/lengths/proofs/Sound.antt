@@ -90,3 +90,134 @@ fraction-part (b ∷ bs) f e =
     (λ yes′. point-part b bs f (eqb-true b 46 yes′) (sym (cond-true (eqb b 46) whole none yes′) ∙ e))
     (λ no′. no-part (b ∷ bs) f (sym (cond-false (eqb b 46) whole none no′) ∙ e))
     (cases-bool (eqb b 46))
+
+-- the bytes of an amount that was read
+module _ (s : List ℕ) where
+  whole-part : (a : Amount) (r : Option Amount) → (leading digitByte s ≡ 0 → ⊥) → leading digitByte s ≤ 8 → fractionOf (drop (leading digitByte s) s) ≡ r → withFraction (numeral (take (leading digitByte s) s)) (leading digitByte s) r ≡ Some a → Amounts (take (a .len) s) (a .size) × (a .len ≤ length s)
+  whole-part a None some few e h = absurd (none-some a h)
+  whole-part a (Some f) some few e h =
+      let n = leading digitByte s in
+      let p = fraction-part (drop n s) f e in
+      let inside = leading-le-length digitByte s in
+      let long : length (take n s) ≡ n = length-take-le n s inside in
+      let got : Amount = record { size = numeral (take n s) * 65536 + f .size; len = n + f .len } in
+      let front : take (n + f .len) s ≡ take n s ++ pointed (p .digits) = take-add n (f .len) s ∙ ap (λ (t : List ℕ). take n s ++ t) (p .front) in
+      let room : f .len ≤ length s - n = omega (arith, p .count, ap length (p .front), length-take (f .len) (drop n s), length-drop n s) in
+      let first : Amounts (take (n + f .len) s) (numeral (take n s) * 65536 + f .size) = record {
+        whole = take n s;
+        fraction = p .digits;
+        part = f .size;
+        spelled = front;
+        wholes = run-digits s;
+        some = ⊎-elim (λ z. absurd (some z)) (λ z. omega arith) (cases-lt-zero n);
+        few = omega arith;
+        fractions = p .each;
+        short = p .short;
+        nearest = subst (Nearest (p .digits)) (sym (p .value)) (nearest (p .digits));
+        value = refl;
+      } in
+      subst (λ (x : Amount). Amounts (take (x .len) s) (x .size) × (x .len ≤ length s)) (some-is got a h) (first, omega arith)
+
+  amount-spelled : (a : Amount) → amountOf s ≡ Some a → Amounts (take (a .len) s) (a .size) × (a .len ≤ length s)
+  amount-spelled a e =
+      let n = leading digitByte s in
+      let read = withFraction (numeral (take n s)) n (fractionOf (drop n s)) in
+      ⊎-elim
+      (λ bad. absurd (none-some a (sym (cond-true (eqb n 0 || ltb 8 n) None read bad) ∙ e)))
+      (λ good.
+      let tests = or-parts (eqb n 0) (ltb 8 n) good in
+      whole-part a (fractionOf (drop n s)) (eqb-false n 0 (tests .0)) (ltb-false 8 n (tests .1)) refl
+      (sym (cond-false (eqb n 0 || ltb 8 n) None read good) ∙ e))
+      (cases-bool (eqb n 0 || ltb 8 n))
+
+-- what a unit was read from
+record Named (t : List ℕ) (m : Measure) : Type 0 where
+  pub front : t ≡ unitText (m .order) ++ drop (m .len) t
+  pub count : m .len ≡ length (unitText (m .order))
+  pub longest : Longest (m .order) (drop (m .len) t)
+
+-- a unit that does not stand at the start is not there
+shut : (t : List ℕ) (p : Order) (tail : List ℕ) → beginsWith (unitText p) t ≡ false → t ≡ unitText p ++ tail → ⊥
+shut t p tail none e = both-ways (beginsWith (unitText p) t) none (ap (beginsWith (unitText p)) e ∙ begins-front (unitText p) tail)
+
+module _ (t : List ℕ) (m : Measure) where
+  named : (o : Order) → beginsWith (unitText o) t ≡ true → ((rest : List ℕ) → t ≡ unitText o ++ rest → Longest o rest) → measured o ≡ Some m → Named t m
+  named o fits longest e =
+      let rest = drop (length (unitText o)) t in
+      let front = front-begins (unitText o) t fits in
+      let got : Measure = record { order = o; len = length (unitText o) } in
+      subst (Named t) (some-is got m e) (record { front = front; count = refl; longest = longest rest front })
+
+  points-longest : (rest : List ℕ) → Longest Points rest
+  points-longest rest Points tail e = omega arith
+  points-longest rest Fil tail e = absurd (omega (arith, ap (λ (x : List ℕ). getD x 0 0) e))
+  points-longest rest Fill tail e = absurd (omega (arith, ap (λ (x : List ℕ). getD x 0 0) e))
+  points-longest rest Filll tail e = absurd (omega (arith, ap (λ (x : List ℕ). getD x 0 0) e))
+
+  filll-longest : (rest : List ℕ) → Longest Filll rest
+  filll-longest rest Points tail e = omega arith
+  filll-longest rest Fil tail e = omega arith
+  filll-longest rest Fill tail e = omega arith
+  filll-longest rest Filll tail e = omega arith
+
+  fill-longest : beginsWith (unitText Filll) t ≡ false → (rest : List ℕ) → t ≡ unitText Fill ++ rest → Longest Fill rest
+  fill-longest none rest front Points tail e = omega arith
+  fill-longest none rest front Fil tail e = omega arith
+  fill-longest none rest front Fill tail e = omega arith
+  fill-longest none rest front Filll tail e = absurd (shut t Filll tail none (front ∙ e))
+
+  fil-longest : beginsWith (unitText Filll) t ≡ false → beginsWith (unitText Fill) t ≡ false → (rest : List ℕ) → t ≡ unitText Fil ++ rest → Longest Fil rest
+  fil-longest none one rest front Points tail e = omega arith
+  fil-longest none one rest front Fil tail e = omega arith
+  fil-longest none one rest front Fill tail e = absurd (shut t Fill tail one (front ∙ e))
+  fil-longest none one rest front Filll tail e = absurd (shut t Filll tail none (front ∙ e))
+
+  -- the units in the order in which they are tried
+  try : {A : Type 0} (o : Order) (x y : Option A) (z : Option A) (P : Type 0) → cond (beginsWith (unitText o) t) x y ≡ z → (beginsWith (unitText o) t ≡ true → x ≡ z → P) → (beginsWith (unitText o) t ≡ false → y ≡ z → P) → P
+  try o x y z P e first then =
+      ⊎-elim
+      (λ h. first h (sym (cond-true (beginsWith (unitText o) t) x y h) ∙ e))
+      (λ h. then h (sym (cond-false (beginsWith (unitText o) t) x y h) ∙ e))
+      (cases-bool (beginsWith (unitText o) t))
+
+  unit-spelled : measureOf t ≡ Some m → Named t m
+  unit-spelled e =
+      try Points _ _ (Some m) (Named t m) e (λ h. named Points h (λ rest _. points-longest rest))
+      (λ _ e₁. try Filll _ _ (Some m) (Named t m) e₁ (λ h. named Filll h (λ rest _. filll-longest rest))
+      (λ none e₂. try Fill _ _ (Some m) (Named t m) e₂ (λ h. named Fill h (fill-longest none))
+      (λ one e₃. try Fil _ _ (Some m) (Named t m) e₃ (λ h. named Fil h (fil-longest none one))
+      (λ _ e₄. absurd (none-some m e₄)))))
+
+module _ (s : List ℕ) (d : Dimen) where
+  measure-spelled : (a : Amount) (r : Option Measure) → amountOf s ≡ Some a → measureOf (drop (a .len) s) ≡ r → withMeasure s a r ≡ Some d → Measures s (d .size) (d .order) (d .len) × (d .size ≤ largest)
+  measure-spelled a None e u h = absurd (none-some d h)
+  measure-spelled a (Some m) e u h =
+      let used = a .len + m .len in
+      let got : Dimen = record { size = a .size; order = m .order; len = used + swallowed (drop used s) } in
+      let unit = unit-spelled (drop (a .len) s) m u in
+      let amount = amount-spelled s a e in
+      let rest = drop (m .len) (drop (a .len) s) in
+      let over : drop used s ≡ rest = sym (drop-drop (m .len) (a .len) s) in
+      let count : length (take (a .len) s) ≡ a .len = length-take-le (a .len) s (amount .1) in
+      let spelled : Measures s (a .size) (m .order) (used + swallowed (drop used s)) = record {
+        bytes = take (a .len) s;
+        rest = rest;
+        spelled = sym (take-append-drop (a .len) s) ∙ ap (λ (t : List ℕ). take (a .len) s ++ t) (unit .front);
+        amount = amount .0;
+        longest = unit .longest;
+        len = ap (λ (t : List ℕ). used + swallowed t) over ∙ omega (arith, count, unit .count);
+      } in
+      ⊎-elim
+      (λ good. subst (λ (x : Dimen). Measures s (x .size) (x .order) (x .len) × (x .size ≤ largest))
+      (some-is got d (sym (cond-true (leb (a .size) largest) (Some got) None good) ∙ h))
+      (spelled, leb-true (a .size) largest good))
+      (λ bad. absurd (none-some d (sym (cond-false (leb (a .size) largest) (Some got) None bad) ∙ h)))
+      (cases-bool (leb (a .size) largest))
+
+  amount-first : (r : Option Amount) → amountOf s ≡ r → withUnit s r ≡ Some d → Measures s (d .size) (d .order) (d .len) × (d .size ≤ largest)
+  amount-first None e h = absurd (none-some d h)
+  amount-first (Some a) e h = measure-spelled a (measureOf (drop (a .len) s)) e refl h
+
+  -- what is read is spelled, and not too large
+  pub dimen-spelled : dimenOf s ≡ Some d → Measures s (d .size) (d .order) (d .len) × (d .size ≤ largest)
+  dimen-spelled h = amount-first (amountOf s) refl h
