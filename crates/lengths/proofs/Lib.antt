@@ -9,3 +9,5 @@ pub mod Places
 pub mod Glueing
 pub mod Complete
 pub mod Sound
+pub mod Refusals
+pub mod LengthLaws

@@ -6,3 +6,4 @@ pub mod Gaps
 pub mod Lengths
 pub mod Glues
 pub mod Spelling
+pub mod Laws

@@ -1,0 +1,45 @@
+-- What is answered of a length or of glue at a place, by what is spelled there. Assumes nothing.
+use mathlib.Core.Bool.{Bool, true, false}
+use mathlib.Core.List.{List}
+use mathlib.Core.Logic.{_⊎_}
+use mathlib.Core.Path.{_≡_}
+use Prim.Native.Nat.{ℕ, _+_, _≤_, _<_}
+use lib.ListN.{length, getD, drop}
+use Rattle.std.specs.declared.result.Result.{Result}
+use Rattle.std.specs.declared.result.Result.the-variants.{Ok, Err}
+use Rattle.faults.specs.declared.Fault.{Fault}
+use Rattle.faults.specs.declared.Cause.the-variants.{BadByte, UnknownControl, BadLength}
+use Rattle.faults.specs.Faults.{faultAt}
+use Rattle.reader.specs.declared.classes.Class.the-variants.{Bad}
+use Rattle.reader.specs.Classes.{classOf}
+use Rattle.reader.specs.Tokens.{tokenAt}
+use Rattle.lengths.specs.declared.length.Length.{Length}
+use Rattle.lengths.specs.Dimens.{largest}
+use Rattle.lengths.specs.Spelling.{Lengths, signed}
+
+-- a digit or a minus
+abbrev pub Begins : ℕ → Type 0
+Begins b = (b ≡ 45) ⊎ ((48 ≤ b) × (b ≤ 57))
+
+-- a fault f is the right one where no length, or no stretch, stands at a place
+pub record Refused (text : List ℕ) (place : ℕ) (f : Fault) : Type 0 where
+  -- at the end of the text
+  pub over : length text ≤ place → f ≡ faultAt BadLength (length text)
+  -- a bad byte
+  pub bad : place < length text → classOf (getD text place 0) ≡ Bad → f ≡ faultAt BadByte place
+  -- a backslash with nothing known behind it
+  pub unknown : place < length text → tokenAt text place ≡ Err (faultAt UnknownControl place) → f ≡ faultAt UnknownControl place
+  -- anything else
+  pub other : place < length text → (classOf (getD text place 0) ≡ Bad → ⊥) → (tokenAt text place ≡ Err (faultAt UnknownControl place) → ⊥) → f ≡ faultAt BadLength place
+  -- what begins as a length is ill-formed at its first byte
+  pub begun : place < length text → Begins (getD text place 0) → f ≡ faultAt BadLength place
+
+-- the answer to a length at a place
+pub record ReadsLength (text : List ℕ) (place : ℕ) (r : Result Length Fault) : Type 0 where
+  -- a length that is spelled there is the answer if its size is within the limit, ..
+  pub good : (minus : Bool) (size n : ℕ) → Lengths (drop place text) minus size n → size ≤ largest → r ≡ Ok (record { sp = signed minus size; end = place + n })
+  -- .. and is refused at its first byte if not
+  pub large : (minus : Bool) (size n : ℕ) → Lengths (drop place text) minus size n → largest < size → r ≡ Err (faultAt BadLength place)
+  -- nothing else is answered
+  pub only : (l : Length) → r ≡ Ok l → (minus : Bool) × (size : ℕ) × (n : ℕ) × Lengths (drop place text) minus size n × (size ≤ largest) × (l ≡ record { sp = signed minus size; end = place + n })
+  pub refused : (f : Fault) → r ≡ Err f → Refused text place f
