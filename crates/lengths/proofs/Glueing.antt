@@ -5,12 +5,14 @@ use mathlib.Core.List.{List}
 use Prim.Native.Nat.{ℕ, _+_, _-_, _≤_}
 use native.Mathlib.Omega.{arith}
 use lib.Chars.{codes}
-use lib.IntN.{ℤ, pos}
+use lib.IntN.{ℤ, pos, negsuc}
+use lib.Signed.{leZ, _≤ℤ_}
 use lib.ListN.{length, take, drop}
 use Rattle.std.specs.declared.result.Result.{Result}
 use Rattle.std.specs.declared.result.Result.the-variants.{Ok, Err}
 use Rattle.std.proofs.shelf.Lists.{take-rest}
-use Rattle.std.proofs.shelf.Tests.{cond-true, cond-false}
+use Rattle.std.proofs.shelf.Tests.{cond-true, cond-false, and-from}
+use Rattle.std.proofs.shelf.Signed.{ints}
 use Rattle.faults.specs.declared.Fault.{Fault}
 use Rattle.reader.specs.Tokens.{spacesEnd}
 use Rattle.lengths.specs.declared.order.Order.the-variants.{Points}
@@ -18,8 +20,14 @@ use Rattle.lengths.specs.declared.length.Length.{Length}
 use Rattle.lengths.specs.declared.glue.Stretch.{Stretch}
 use Rattle.lengths.specs.Dimens.{beginsWith}
 use Rattle.lengths.specs.Lengths.{lengthAt}
-use Rattle.lengths.specs.Gaps.{Parts, parts}
+use Rattle.lengths.specs.Gaps.{Parts, parts, naturalFits, stretchFits}
 use Rattle.lengths.specs.Glues.{GlueParts, stretchAt, stretched, behindLength, glueAt}
+
+pub natural-fits : (z y : ℤ) → y ≡ z → negsuc 16777214 ≤ℤ z → z ≤ℤ pos 16777215 → naturalFits y ≡ true
+natural-fits z y e low high = ap naturalFits e ∙ and-from (leZ (negsuc 16777214) z) (leZ z (pos 16777215)) (grind (arith, ints)) (grind (arith, ints))
+
+pub stretch-fits : (z y : ℤ) → y ≡ z → pos 0 ≤ℤ z → z ≤ℤ pos 16777215 → stretchFits y ≡ true
+stretch-fits z y e low high = ap stretchFits e ∙ and-from (leZ (pos 0) z) (leZ z (pos 16777215)) (grind (arith, ints)) (grind (arith, ints))
 
 pub spaces-on : (text : List ℕ) (place : ℕ) → place ≤ spacesEnd text place
 unfolding spacesEnd

@@ -11,3 +11,4 @@ pub mod Complete
 pub mod Sound
 pub mod Refusals
 pub mod LengthLaws
+pub mod GlueLaws

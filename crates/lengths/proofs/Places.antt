@@ -17,9 +17,12 @@ pub length-rest : (text : List ℕ) (place : ℕ) → length (take (length text 
 length-rest text place = ap length (take-rest text place) ∙ length-drop place text
 
 module _ (text : List ℕ) (place : ℕ) where
-  pub length-there : (l : Length) → Some l ≡ lengthOf (take (length text - place) (drop place text)) → Ok (record { sp = l .sp; end = place + l .end }) ≡ lengthAt text place
+  length-there : (l : Length) → Some l ≡ lengthOf (take (length text - place) (drop place text)) → Ok (record { sp = l .sp; end = place + l .end }) ≡ lengthAt text place
   unfolding lengthAt
   length-there l e = ap (placed text place) (e ∙ ap lengthOf (take-rest text place))
+
+  pub length-at-is : (l : Length) (z : ℤ) → z ≡ l .sp → Some l ≡ lengthOf (take (length text - place) (drop place text)) → Ok (record { sp = z; end = place + l .end }) ≡ lengthAt text place
+  length-at-is l z value e = ap (λ (x : ℤ). Ok (record { sp = x; end = place + l .end })) value ∙ length-there l e
 
   pub length-none : None ≡ lengthOf (take (length text - place) (drop place text)) → Err (missingAt text place) ≡ lengthAt text place
   unfolding lengthAt

@@ -1,9 +1,11 @@
 -- What is answered of a length or of glue at a place, by what is spelled there. Assumes nothing.
 use mathlib.Core.Bool.{Bool, true, false}
-use mathlib.Core.List.{List}
+use mathlib.Core.List.{List, _++_}
 use mathlib.Core.Logic.{_⊎_}
 use mathlib.Core.Path.{_≡_}
 use Prim.Native.Nat.{ℕ, _+_, _≤_, _<_}
+use lib.Chars.{codes}
+use lib.IntN.{pos}
 use lib.ListN.{length, getD, drop}
 use Rattle.std.specs.declared.result.Result.{Result}
 use Rattle.std.specs.declared.result.Result.the-variants.{Ok, Err}
@@ -12,10 +14,15 @@ use Rattle.faults.specs.declared.Cause.the-variants.{BadByte, UnknownControl, B
 use Rattle.faults.specs.Faults.{faultAt}
 use Rattle.reader.specs.declared.classes.Class.the-variants.{Bad}
 use Rattle.reader.specs.Classes.{classOf}
-use Rattle.reader.specs.Tokens.{tokenAt}
+use Rattle.reader.specs.Tokens.{tokenAt, spacesEnd}
+use Rattle.lengths.specs.declared.order.Order.{Order}
+use Rattle.lengths.specs.declared.order.Order.the-variants.{Points}
 use Rattle.lengths.specs.declared.length.Length.{Length}
 use Rattle.lengths.specs.Dimens.{largest}
-use Rattle.lengths.specs.Spelling.{Lengths, signed}
+use Rattle.lengths.specs.Gaps.{parts}
+use Rattle.lengths.specs.Glues.{GlueParts}
+use Rattle.lengths.specs.Lengths.{lengthAt}
+use Rattle.lengths.specs.Spelling.{Measures, Lengths, signed}
 
 -- a digit or a minus
 abbrev pub Begins : ℕ → Type 0
@@ -43,3 +50,16 @@ pub record ReadsLength (text : List ℕ) (place : ℕ) (r : Result Length Fault)
   -- nothing else is answered
   pub only : (l : Length) → r ≡ Ok l → (minus : Bool) × (size : ℕ) × (n : ℕ) × Lengths (drop place text) minus size n × (size ≤ largest) × (l ≡ record { sp = signed minus size; end = place + n })
   pub refused : (f : Fault) → r ≡ Err f → Refused text place f
+
+-- the answer to glue at a place
+pub record ReadsGlue (text : List ℕ) (place : ℕ) (r : Result GlueParts Fault) : Type 0 where
+  -- where no length is answered, its refusal is the answer
+  pub short : (f : Fault) → lengthAt text place ≡ Err f → r ≡ Err f
+  -- a length with no `plus` behind it does not stretch
+  pub plain : (l : Length) → lengthAt text place ≡ Ok l → ((tail : List ℕ) → drop (l .end) text ≡ codes "plus" ++ tail → ⊥) → r ≡ Ok (record { gap = parts (l .sp) (pos 0) Points; end = l .end })
+  -- behind `plus` and all spaces there, a stretch within the limit is taken, ..
+  pub stretched : (l : Length) (tail : List ℕ) → lengthAt text place ≡ Ok l → drop (l .end) text ≡ codes "plus" ++ tail → (size : ℕ) (o : Order) (n : ℕ) → Measures (drop (spacesEnd text (l .end + 4)) text) size o n → size ≤ largest → r ≡ Ok (record { gap = parts (l .sp) (pos size) o; end = spacesEnd text (l .end + 4) + n })
+  -- .. one above it is refused at its first byte, ..
+  pub large : (l : Length) (tail : List ℕ) → lengthAt text place ≡ Ok l → drop (l .end) text ≡ codes "plus" ++ tail → (size : ℕ) (o : Order) (n : ℕ) → Measures (drop (spacesEnd text (l .end + 4)) text) size o n → largest < size → r ≡ Err (faultAt BadLength (spacesEnd text (l .end + 4)))
+  -- .. and where none stands there, that is refused as a missing length is
+  pub missing : (l : Length) (tail : List ℕ) → lengthAt text place ≡ Ok l → drop (l .end) text ≡ codes "plus" ++ tail → ((size : ℕ) (o : Order) (n : ℕ) → Measures (drop (spacesEnd text (l .end + 4)) text) size o n → ⊥) → (f : Fault) × (r ≡ Err f) × Refused text (spacesEnd text (l .end + 4)) f

@@ -6,6 +6,7 @@ ghost use lib.Signed.{_≤ℤ_};
 ghost use lib.ListN.{length};
 ghost use Rattle.std.specs.Slices.{found};
 ghost use Rattle.std.specs.Vec.{made};
+ghost use Rattle.lengths.specs.Laws.{ReadsLength};
 ghost use Rattle.lengths.specs.Lengths.{pointsOf, lengthOf, missingAt, lengthAt};
 
 use crate::dimen::Dimen;
@@ -68,6 +69,7 @@ pub(crate) fn missing(text: &[u8], place: usize) -> Fault
 pub fn length_at(text: &[u8], place: usize) -> Result<Length, Fault>
     ensures answer { λ r. ⌜ r ≡ lengthAt (now (text .entry)) place ⌝ }
     ensures within { λ r. ⌜ made r (λ l. (negsuc 16777214 ≤ℤ l .sp) × (l .sp ≤ℤ pos 16777215) × (place < l .end) × (l .end ≤ length (now (text .entry)))) ⌝ }
+    ensures law { λ r. ⌜ ReadsLength (now (text .entry)) place r ⌝ }
 {
     if place < text.len() {
         if let Some(l) = length_in(&text[place..]) {

@@ -16,8 +16,18 @@ use Rattle.std.proofs.shelf.Signed.{ints}
 use Rattle.lengths.specs.declared.order.Order.the-variants.{Points}
 use Rattle.lengths.specs.Dimens.{beginsWith}
 use Rattle.lengths.specs.Gaps.{parts}
-use Rattle.lengths.proofs.Glueing.{glue-refused, glue-plain, glue-short, glue-stretched}
+use Rattle.lengths.proofs.Glueing.{natural-fits, stretch-fits, glue-refused, glue-plain, glue-short, glue-stretched}
 use Rattle.lengths.proofs.glue.glue_at.Needs as need
+
+pub of-gap-requires : need.of-gap-requires
+of-gap-requires c κs =
+    let l = c .in-Continue-length .length in
+    let s = c .in-Continue-stretch .stretch in
+    let told = c .in-Continue-length .ensures tt .within in
+    let more = c .in-Continue-stretch .ensures tt .inside in
+    let natural : toZ w64 (ofZ w64 (l .sp)) ≡ l .sp = omega (arith, ints, told .0, told .1) in
+    let stretch : toZ w64 (ofZ w64 (s .size)) ≡ s .size = omega (arith, ints, more .0, more .1) in
+    (natural-fits (l .sp) (toZ w64 (ofZ w64 (l .sp))) natural (told .0) (told .1), stretch-fits (s .size) (toZ w64 (ofZ w64 (s .size))) stretch (more .0) (more .1))
 
 pub returns-in-Break-length : need.returns-in-Break-length
 returns-in-Break-length c =
