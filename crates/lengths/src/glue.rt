@@ -5,6 +5,7 @@ ghost use lib.IntN.{pos};
 ghost use lib.Signed.{_≤ℤ_};
 ghost use lib.ListN.{length};
 ghost use Rattle.std.specs.Vec.{made};
+ghost use Rattle.lengths.specs.Laws.{ReadsGlue};
 ghost use Rattle.lengths.specs.Glues.{stretchAt, glueParts, glueAt};
 
 use crate::dimen::begins;
@@ -51,6 +52,8 @@ fn stretch_at(text: &[u8], place: usize) -> Result<Stretch, Fault>
 // The glue at a place of a text.
 pub fn glue_at(text: &[u8], place: usize) -> Result<Glue, Fault>
     ensures answer { λ r. ⌜ glueParts r ≡ glueAt (now (text .entry)) place ⌝ }
+    ensures within { λ r. ⌜ made r (λ g. (place < g .end) × (g .end ≤ length (now (text .entry)))) ⌝ }
+    ensures law { λ r. ⌜ ReadsGlue (now (text .entry)) place (glueParts r) ⌝ }
 {
     let length = length_at(text, place)?;
     let end = length.end;

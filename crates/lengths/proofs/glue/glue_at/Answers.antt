@@ -16,7 +16,8 @@ use Rattle.std.proofs.shelf.Signed.{ints}
 use Rattle.lengths.specs.declared.order.Order.the-variants.{Points}
 use Rattle.lengths.specs.Dimens.{beginsWith}
 use Rattle.lengths.specs.Gaps.{parts}
-use Rattle.lengths.proofs.Glueing.{natural-fits, stretch-fits, glue-refused, glue-plain, glue-short, glue-stretched}
+use Rattle.lengths.proofs.Glueing.{natural-fits, stretch-fits, spaces-on, glue-refused, glue-plain, glue-short, glue-stretched}
+use Rattle.lengths.proofs.GlueLaws.{reads-glue}
 use Rattle.lengths.proofs.glue.glue_at.Needs as need
 
 pub of-gap-requires : need.of-gap-requires
@@ -32,40 +33,46 @@ of-gap-requires c κs =
 pub returns-in-Break-length : need.returns-in-Break-length
 returns-in-Break-length c =
     let p = err-from-errBy (c .from-residual .result) (c .from-residual .ensures .1) in
-    rw (p .1, p .2) (record { answer = glue-refused (c .args .text .now) (c .args .place) (c .in-Break-length .field-0 .0) (c .in-Break-length .ensures tt .answer) })
+    let e = glue-refused (c .args .text .now) (c .args .place) (c .in-Break-length .field-0 .0) (c .in-Break-length .ensures tt .answer) in
+    rw (p .1, p .2) (record { answer = e; within = tt; law = reads-glue (c .args .text .now) (c .args .place) _ e })
 
 pub returns-in-Break-stretch : need.returns-in-Break-stretch
 returns-in-Break-stretch c =
     let p = err-from-errBy (c .from-residual-in-Break-stretch .result) (c .from-residual-in-Break-stretch .ensures .1) in
     let l = c .in-Continue-length .length in
     let text = c .args .text .now in
-    rw (p .1, p .2) (record {
-      answer = glue-short text (c .args .place) l (c .in-Continue-length .ensures tt .answer) (c .spaces-end .result) (c .spaces-end .ensures .answer)
+    let e = glue-short text (c .args .place) l (c .in-Continue-length .ensures tt .answer) (c .spaces-end .result) (c .spaces-end .ensures .answer)
       (c .if-begins .ensures tt .is ∙ ap (beginsWith (codes "plus")) (take-rest text (l .end)))
-      (c .in-Break-stretch .field-0 .0) (c .in-Break-stretch .ensures tt .is);
-    })
+      (c .in-Break-stretch .field-0 .0) (c .in-Break-stretch .ensures tt .is) in
+    rw (p .1, p .2) (record { answer = e; within = tt; law = reads-glue text (c .args .place) _ e })
 
 pub returns-in-Continue-stretch : need.returns-in-Continue-stretch
 returns-in-Continue-stretch c =
     let l = c .in-Continue-length .length in
     let s = c .in-Continue-stretch .stretch in
     let text = c .args .text .now in
-    let natural : toZ w64 (ofZ w64 (l .sp)) ≡ l .sp = omega (arith, ints, c .in-Continue-length .ensures tt .within .0, c .in-Continue-length .ensures tt .within .1) in
-    let stretch : toZ w64 (ofZ w64 (s .size)) ≡ s .size = omega (arith, ints, c .in-Continue-stretch .ensures tt .inside .0, c .in-Continue-stretch .ensures tt .inside .1) in
-    record {
-      answer = glue-stretched text (c .args .place) l (c .in-Continue-length .ensures tt .answer) (c .spaces-end .result) (c .spaces-end .ensures .answer)
+    let told = c .in-Continue-length .ensures tt .within in
+    let more = c .in-Continue-stretch .ensures tt .inside in
+    let natural : toZ w64 (ofZ w64 (l .sp)) ≡ l .sp = omega (arith, ints, told .0, told .1) in
+    let stretch : toZ w64 (ofZ w64 (s .size)) ≡ s .size = omega (arith, ints, more .0, more .1) in
+    let same = c .of-gap .ensures .answer ∙ ap (λ (z : ℤ). parts z (toZ w64 (ofZ w64 (s .size))) (s .order)) natural ∙ ap (λ (z : ℤ). parts (l .sp) z (s .order)) stretch in
+    let e = glue-stretched text (c .args .place) l (c .in-Continue-length .ensures tt .answer) (c .spaces-end .result) (c .spaces-end .ensures .answer)
       (c .if-begins .ensures tt .is ∙ ap (beginsWith (codes "plus")) (take-rest text (l .end)))
-      s _ (c .of-gap .ensures .answer ∙ ap (λ (z : ℤ). parts z (toZ w64 (ofZ w64 (s .size))) (s .order)) natural ∙ ap (λ (z : ℤ). parts (l .sp) z (s .order)) stretch)
-      (c .in-Continue-stretch .ensures tt .is);
+      s _ same (c .in-Continue-stretch .ensures tt .is) in
+    let on = spaces-on text (l .end + 4) in
+    record {
+      answer = e;
+      within = (omega (arith, told .2, on, c .spaces-end .ensures .answer, more .2), more .3);
+      law = reads-glue text (c .args .place) _ e;
     }
 
 pub returns-else-begins : need.returns-else-begins
 returns-else-begins c =
     let l = c .in-Continue-length .length in
     let text = c .args .text .now in
-    let natural : toZ w64 (ofZ w64 (l .sp)) ≡ l .sp = omega (arith, ints, c .in-Continue-length .ensures tt .within .0, c .in-Continue-length .ensures tt .within .1) in
-    record {
-      answer = glue-plain text (c .args .place) l (c .in-Continue-length .ensures tt .answer)
+    let told = c .in-Continue-length .ensures tt .within in
+    let natural : toZ w64 (ofZ w64 (l .sp)) ≡ l .sp = omega (arith, ints, told .0, told .1) in
+    let e = glue-plain text (c .args .place) l (c .in-Continue-length .ensures tt .answer)
       _ (c .of-gap-else-begins .ensures .answer ∙ ap (λ (z : ℤ). parts z (pos 0) Points) natural)
-      (c .if-begins .ensures tt .is ∙ ap (beginsWith (codes "plus")) (take-rest text (l .end)));
-    }
+      (c .if-begins .ensures tt .is ∙ ap (beginsWith (codes "plus")) (take-rest text (l .end))) in
+    record { answer = e; within = (told .2, told .3); law = reads-glue text (c .args .place) _ e }
