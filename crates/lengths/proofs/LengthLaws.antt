@@ -122,13 +122,13 @@ lengths-first s false size n h =
     let m = measures-first (h .tail) size Points (h .used) (h .amount) in
     subst (λ (x : List ℕ). (0 < length x) × Begins (getD x 0 0)) (sym (h .spelled)) (m .0, inr (m .1, m .2))
 
-err-is : {X : Type 0} (f g : Fault) → _≡_ {A = Result X Fault} (Err f) (Err g) → f ≡ g
+pub err-is : {X : Type 0} (f g : Fault) → _≡_ {A = Result X Fault} (Err f) (Err g) → f ≡ g
 err-is f g e = cc
 
-ok-is : {X : Type 0} (x y : X) → _≡_ {A = Result X Fault} (Ok x) (Ok y) → x ≡ y
+pub ok-is : {X : Type 0} (x y : X) → _≡_ {A = Result X Fault} (Ok x) (Ok y) → x ≡ y
 ok-is x y e = cc
 
-ok-err : {X : Type 0} (x : X) (f : Fault) → _≡_ {A = Result X Fault} (Ok x) (Err f) → ⊥
+pub ok-err : {X : Type 0} (x : X) (f : Fault) → _≡_ {A = Result X Fault} (Ok x) (Err f) → ⊥
 ok-err x f e = let z : _≡_ {A = ℕ} 0 1 = cc in omega arith
 
 -- at a place within the text, the first byte of what is left is the byte there

@@ -12,3 +12,4 @@ pub mod Sound
 pub mod Refusals
 pub mod LengthLaws
 pub mod GlueLaws
+pub mod Within

@@ -7,3 +7,4 @@ pub mod Lengths
 pub mod Glues
 pub mod Spelling
 pub mod Laws
+pub mod Samples

@@ -1,6 +1,7 @@
 -- The orders of stretch: their numbers and units. Assumes nothing.
 use Prim.Native.Nat.{ℕ, zero, suc}
 use mathlib.Core.List.{List}
+use mathlib.Core.Path.{_≡_}
 use lib.Chars.{codes}
 use lib.IntN.{ℤ, pos, negsuc}
 use Rattle.std.specs.declared.option.Option.{Option}
@@ -29,3 +30,8 @@ unitText Points = codes "pt"
 unitText Fil = codes "fil"
 unitText Fill = codes "fill"
 unitText Filll = codes "filll"
+
+-- the answer to a number: its order, if it is one's number
+pub record OrderOf (z : ℤ) (r : Option Order) : Type 0 where
+  pub good : (o : Order) → z ≡ orderNumber o → r ≡ Some o
+  pub only : (o : Order) → r ≡ Some o → z ≡ orderNumber o

@@ -6,3 +6,4 @@ pub mod gap;
 pub mod glue;
 pub mod length;
 pub mod order;
+pub mod samples;

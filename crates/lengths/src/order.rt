@@ -1,6 +1,6 @@
 //! The orders of stretch.
 ghost use mathlib.Core.Path.{_≡_};
-ghost use Rattle.lengths.specs.Orders.{orderNumber, orderFrom};
+ghost use Rattle.lengths.specs.Orders.{orderNumber, orderFrom, OrderOf};
 
 // How strong a stretch is, by its unit: points are the weakest.
 #[derive(Clone, Copy, PartialEq, Eq, Debug)]
@@ -27,6 +27,7 @@ impl Order {
     // The order of a number, or nothing outside 0 to 3.
     pub fn from_number(number: i64) -> Option<Order>
         ensures answer { λ r. ⌜ r ≡ orderFrom number ⌝ }
+        ensures law { λ r. ⌜ OrderOf number r ⌝ }
     {
         match number {
             0 => Some(Order::Points),

@@ -4,7 +4,7 @@ ghost use mathlib.Core.Bool.{true};
 ghost use lib.IntN.{pos, negsuc};
 ghost use lib.Signed.{_≤ℤ_};
 ghost use Rattle.std.specs.Options.{mapped};
-ghost use Rattle.lengths.specs.Gaps.{parts, partsOf, naturalFits, stretchFits, gapOf};
+ghost use Rattle.lengths.specs.Gaps.{parts, partsOf, naturalFits, stretchFits, gapOf, MakesGap};
 
 use crate::gap::Gap;
 use crate::order::Order;
@@ -21,6 +21,7 @@ impl Gap {
     // A gap of these parts, or nothing where a number is out of its range.
     pub fn new(natural: i64, stretch: i64, order: i64) -> Option<Gap>
         ensures answer { λ r. ⌜ mapped partsOf r ≡ gapOf natural stretch order ⌝ }
+        ensures law { λ r. ⌜ MakesGap natural stretch order (mapped partsOf r) ⌝ }
     {
         let order = Order::from_number(order)?;
         if natural < -16_777_215 || natural > 16_777_215 {
