@@ -63,8 +63,8 @@ between : (p a r q : ℕ) → 2 * r * p ≤ a → a < 2 * (q + 1) * p → r ≤ 
 between p a r q low high =
     ⊎-elim (λ h. h) (λ h. absurd (let up : 2 * (q + 1) * p ≤ 2 * r * p = mul-le-mul-right p (omega arith) in omega arith)) (cases r q)
   where
-  cases : (m n : ℕ) → (m ≤ n) ⊎ (n < m)
-  cases m n = grind arith
+    cases : (m n : ℕ) → (m ≤ n) ⊎ (n < m)
+    cases m n = grind arith
 
 pub nearest-one : (ds : List ℕ) (r q : ℕ) → Nearest ds r → Nearest ds q → r ≡ q
 nearest-one ds r q h k =
@@ -135,14 +135,14 @@ dimen-read s size o n h =
     let count : length (h .bytes) ≡ length (q .whole) + length (pointed (q .fraction)) = ap length (q .spelled) ∙ length-append (q .whole) (pointed (q .fraction)) in
     let text : s ≡ q .whole ++ (pointed (q .fraction) ++ t) = h .spelled ∙ ap (λ (x : List ℕ). x ++ t) (q .spelled) ∙ append-assoc (q .whole) (pointed (q .fraction)) t in
     let there : Some a ≡ amountOf s =
-      ap (λ (k : ℕ). Some (record { size = k; len = length (h .bytes) })) (q .value)
-      ∙ ap (λ (k : ℕ). Some (record { size = numeral (q .whole) * 65536 + q .part; len = k })) count
-      ∙ sym (amount-read (q .whole) (q .fraction) (q .part) o (h .rest) (q .wholes) (q .some) (q .few) (q .fractions) (q .short) (q .nearest))
-      ∙ ap amountOf (sym text) in
+    ap (λ (k : ℕ). Some (record { size = k; len = length (h .bytes) })) (q .value)
+    ∙ ap (λ (k : ℕ). Some (record { size = numeral (q .whole) * 65536 + q .part; len = k })) count
+    ∙ sym (amount-read (q .whole) (q .fraction) (q .part) o (h .rest) (q .wholes) (q .some) (q .few) (q .fractions) (q .short) (q .nearest))
+    ∙ ap amountOf (sym text) in
     let behind : drop (length (h .bytes)) s ≡ t = ap (drop (length (h .bytes))) (h .spelled) ∙ drop-at (h .bytes) t (length (h .bytes)) refl in
     let unit : measured o ≡ measureOf (drop (length (h .bytes)) s) = sym (ap measureOf behind ∙ unit-read o (h .rest) (h .longest)) in
     let used = length (h .bytes) + length (unitText o) in
     let over : drop used s ≡ h .rest =
-      sym (drop-drop (length (unitText o)) (length (h .bytes)) s) ∙ ap (drop (length (unitText o))) behind ∙ drop-at (unitText o) (h .rest) (length (unitText o)) refl in
+    sym (drop-drop (length (unitText o)) (length (h .bytes)) s) ∙ ap (drop (length (unitText o))) behind ∙ drop-at (unitText o) (h .rest) (length (unitText o)) refl in
     sym (dimen-sized s a there (record { order = o; len = length (unitText o) }) unit)
     ∙ ap (λ (k : ℕ). cond (leb size largest) (Some (record { size = size; order = o; len = k })) None) (ap (λ (x : List ℕ). used + swallowed x) over ∙ sym (h .len))

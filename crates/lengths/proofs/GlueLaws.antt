@@ -74,14 +74,15 @@ reads-glue text place r e =
       short = λ f h. e ∙ sym (glue-refused text place f (sym h));
       plain = λ l h none. e ∙ sym (glue-plain text place l (sym h) (parts (l .sp) (pos 0) Points) refl (begins-else (drop (l .end) text) none));
       stretched = λ l tail h plus size o n m small.
-        e ∙ sym (glue-plus text place l (sym h) (begins-plus (drop (l .end) text) tail plus))
-        ∙ ap (stretched (l .sp)) (stretch-good text (spacesEnd text (l .end + 4)) size o n m small);
+          e ∙ sym (glue-plus text place l (sym h) (begins-plus (drop (l .end) text) tail plus))
+          ∙ ap (stretched (l .sp)) (stretch-good text (spacesEnd text (l .end + 4)) size o n m small);
       large = λ l tail h plus size o n m big.
+          e ∙ sym (glue-plus text place l (sym h) (begins-plus (drop (l .end) text) tail plus))
+          ∙ ap (stretched (l .sp)) (stretch-large text (spacesEnd text (l .end + 4)) size o n m big);
+      missing = λ l tail h plus none. (
+        missingAt text (spacesEnd text (l .end + 4)),
         e ∙ sym (glue-plus text place l (sym h) (begins-plus (drop (l .end) text) tail plus))
-        ∙ ap (stretched (l .sp)) (stretch-large text (spacesEnd text (l .end + 4)) size o n m big);
-      missing = λ l tail h plus none.
-        ( missingAt text (spacesEnd text (l .end + 4)),
-        e ∙ sym (glue-plus text place l (sym h) (begins-plus (drop (l .end) text) tail plus))
-        ∙ ap (stretched (l .sp)) (stretch-missing text (spacesEnd text (l .end + 4)) none),
-        missing-refused text (spacesEnd text (l .end + 4)) );
+            ∙ ap (stretched (l .sp)) (stretch-missing text (spacesEnd text (l .end + 4)) none),
+        missing-refused text (spacesEnd text (l .end + 4)),
+      );
     }

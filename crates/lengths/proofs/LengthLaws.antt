@@ -38,9 +38,9 @@ measures-first s size o n h =
     let text : s ≡ (q .whole ++ pointed (q .fraction)) ++ (unitText o ++ h .rest) = h .spelled ∙ ap (λ (x : List ℕ). x ++ (unitText o ++ h .rest)) (q .spelled) in
     subst (λ (x : List ℕ). (0 < length x) × (48 ≤ getD x 0 0) × (getD x 0 0 ≤ 57)) (sym text) (first (q .whole) (pointed (q .fraction)) (unitText o ++ h .rest) (q .wholes) (q .some))
   where
-  first : (w p t : List ℕ) → Digits w → 1 ≤ length w → (0 < length ((w ++ p) ++ t)) × (48 ≤ getD ((w ++ p) ++ t) 0 0) × (getD ((w ++ p) ++ t) 0 0 ≤ 57)
-  first [] p t d some = absurd (omega arith)
-  first (b ∷ w) p t d some = (omega arith, d .0, d .1)
+    first : (w p t : List ℕ) → Digits w → 1 ≤ length w → (0 < length ((w ++ p) ++ t)) × (48 ≤ getD ((w ++ p) ++ t) 0 0) × (getD ((w ++ p) ++ t) 0 0 ≤ 57)
+    first [] p t d some = absurd (omega arith)
+    first (b ∷ w) p t d some = (omega arith, d .0, d .1)
 
 -- a minus or an amount without one
 pub bare-length : (s : List ℕ) → 48 ≤ getD s 0 0 → lengthOf s ≡ pointsOf s

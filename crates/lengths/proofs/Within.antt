@@ -16,6 +16,7 @@ use Rattle.std.specs.declared.result.Result.the-variants.{Ok, Err}
 use Rattle.std.proofs.shelf.Signed.{ints}
 use Rattle.std.proofs.shelf.Tests.{cases-bool, cond-true, cond-false}
 use Rattle.faults.specs.declared.Fault.{Fault}
+use Rattle.reader.specs.Classes.{spaceByte}
 use Rattle.reader.specs.Tokens.{spacesEnd}
 use Rattle.lengths.specs.declared.order.Order.{Order}
 use Rattle.lengths.specs.declared.order.Order.the-variants.{Points, Fil, Fill, Filll}
@@ -23,7 +24,7 @@ use Rattle.lengths.specs.declared.dimen.Dimen.{Dimen}
 use Rattle.lengths.specs.declared.length.Length.{Length}
 use Rattle.lengths.specs.declared.glue.Stretch.{Stretch}
 use Rattle.lengths.specs.Orders.{unitText}
-use Rattle.lengths.specs.Dimens.{largest, swallowed, spaceByte, beginsWith, dimenOf}
+use Rattle.lengths.specs.Dimens.{largest, swallowed, beginsWith, dimenOf}
 use Rattle.lengths.specs.Lengths.{missingAt, lengthAt}
 use Rattle.lengths.specs.Gaps.{Parts, parts, InRange}
 use Rattle.lengths.specs.Glues.{GlueParts, stretchPlaced, stretchAt, stretched, behindLength, glueAt}

@@ -1,11 +1,12 @@
 -- An amount with its unit as it is read from the first byte on. Assumes nothing.
-use mathlib.Core.Bool.{Bool, true, false, cond, _&&_, _||_}
+use mathlib.Core.Bool.{Bool, true, false, cond, _&&_}
 use mathlib.Core.List.{List, [], _∷_}
 use Prim.Native.Nat.{ℕ, _+_}
 use lib.Dec.{leb, eqb}
 use lib.ListN.{length, drop}
 use Rattle.std.specs.declared.option.Option.{Option}
 use Rattle.std.specs.declared.option.Option.the-variants.{Some, None}
+use Rattle.reader.specs.Classes.{spaceByte}
 use Rattle.lengths.specs.declared.amount.Amount.{Amount}
 use Rattle.lengths.specs.declared.dimen.Measure.{Measure}
 use Rattle.lengths.specs.declared.dimen.Dimen.{Dimen}
@@ -23,10 +24,6 @@ abbrev pub beginsWith : List ℕ → List ℕ → Bool
 beginsWith [] s = true
 beginsWith (c ∷ cs) [] = false
 beginsWith (c ∷ cs) (b ∷ bs) = eqb b c && beginsWith cs bs
-
--- space and newline
-abbrev pub spaceByte : ℕ → Bool
-spaceByte b = eqb b 32 || eqb b 10
 
 -- how many space bytes are swallowed: one at most
 abbrev pub swallowed : List ℕ → ℕ

@@ -1,4 +1,4 @@
-// Amounts: 1 to 8 digits, optionally a point with 1 to 17 digits, in 65,536ths.
+//! Amounts: 1 to 8 digits, optionally a point with 1 to 17 digits, in 65,536ths.
 ghost use mathlib.Core.Path.{_≡_};
 ghost use Prim.Native.Nat.{_+_, _^_, _<_, _≤_};
 ghost use lib.ListN.{length, take};
@@ -6,7 +6,6 @@ ghost use Rattle.std.specs.shelf.Lists.{leading};
 ghost use Rattle.std.specs.Slices.{found};
 ghost use Rattle.lengths.specs.Fractions.{Digits, numeral};
 ghost use Rattle.lengths.specs.Amounts.{digitByte, behindPoint, fractionOf, amountOf};
-
 use crate::fraction::round_decimals;
 
 // An amount in 65,536ths, and how many bytes spell it.
@@ -75,7 +74,7 @@ fn fraction(s: &[u8]) -> Option<Amount>
     }
 }
 
-// The amount at the start of the bytes.
+// The amount at the start of the bytes: the longest run of digits, and the longest behind a point.
 pub(crate) fn amount_in(s: &[u8]) -> Option<Amount>
     ensures is { λ r. ⌜ r ≡ amountOf (now (s .entry)) ⌝ }
     ensures small { λ r. ⌜ found r (λ a. (a .size < 2 ^ 43) × (1 ≤ a .len) × (a .len ≤ length (now (s .entry)))) ⌝ }

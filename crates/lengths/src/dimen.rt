@@ -1,11 +1,10 @@
-// An amount with its unit, and the one space byte behind it.
+//! An amount with its unit, and the one space byte behind it.
 ghost use mathlib.Core.Path.{_≡_};
 ghost use mathlib.Core.Bool.{true};
 ghost use Prim.Native.Nat.{_+_, _≤_};
 ghost use lib.ListN.{length};
 ghost use Rattle.std.specs.Slices.{found};
 ghost use Rattle.lengths.specs.Dimens.{beginsWith, measureOf, swallowed, dimenOf};
-
 use crate::amount::amount_in;
 use crate::order::Order;
 
@@ -27,6 +26,7 @@ pub(crate) struct Dimen {
     pub(crate) len: usize,
 }
 
+// Whether the bytes begin with a word.
 pub(crate) fn begins(s: &[u8], word: &[u8]) -> bool
     ensures is { λ r. ⌜ r ≡ beginsWith (now (word .entry)) (now (s .entry)) ⌝ }
     ensures room { λ r. ⌜ (r ≡ true → length (now (word .entry)) ≤ length (now (s .entry))) ⌝ }
@@ -40,13 +40,25 @@ fn measure_in(s: &[u8]) -> Option<Measure>
     ensures inside { λ r. ⌜ found r (λ m. m .len ≤ length (now (s .entry))) ⌝ }
 {
     if begins(s, b"pt") {
-        Some(Measure { order: Order::Points, len: 2 })
+        Some(Measure {
+            order: Order::Points,
+            len: 2,
+        })
     } else if begins(s, b"filll") {
-        Some(Measure { order: Order::Filll, len: 5 })
+        Some(Measure {
+            order: Order::Filll,
+            len: 5,
+        })
     } else if begins(s, b"fill") {
-        Some(Measure { order: Order::Fill, len: 4 })
+        Some(Measure {
+            order: Order::Fill,
+            len: 4,
+        })
     } else if begins(s, b"fil") {
-        Some(Measure { order: Order::Fil, len: 3 })
+        Some(Measure {
+            order: Order::Fil,
+            len: 3,
+        })
     } else {
         None
     }

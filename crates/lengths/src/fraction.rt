@@ -1,4 +1,4 @@
-// The digits behind a point, in 65,536ths: The Program, §102.
+//! The digits behind a point, in 65,536ths: The Program, §102.
 ghost use mathlib.Core.Path.{_≡_};
 ghost use Prim.Native.Nat.{_<_, _≤_};
 ghost use Rattle.lengths.specs.Fractions.{Digits, Nearest, scaled, rounded};

@@ -1,7 +1,6 @@
 //! The gap between two columns.
 ghost use lib.IntN.{pos, negsuc};
 ghost use lib.Signed.{_≤ℤ_};
-
 use crate::order::Order;
 
 pub mod parts;

@@ -7,7 +7,6 @@ ghost use lib.ListN.{length};
 ghost use Rattle.std.specs.Vec.{made};
 ghost use Rattle.lengths.specs.Laws.{ReadsGlue};
 ghost use Rattle.lengths.specs.Glues.{stretchAt, glueParts, glueAt};
-
 use crate::dimen::begins;
 use crate::dimen::dimen_in;
 use crate::gap::Gap;
@@ -60,7 +59,10 @@ pub fn glue_at(text: &[u8], place: usize) -> Result<Glue, Fault>
     if begins(&text[end..], b"plus") {
         let stretch = stretch_at(text, spaces_end(text, end + 4))?;
         let gap = Gap::of(length.sp, stretch.size, stretch.order);
-        Ok(Glue { gap, end: stretch.end })
+        Ok(Glue {
+            gap,
+            end: stretch.end,
+        })
     } else {
         let gap = Gap::of(length.sp, 0, Order::Points);
         Ok(Glue { gap, end })

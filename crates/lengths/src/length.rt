@@ -8,7 +8,6 @@ ghost use Rattle.std.specs.Slices.{found};
 ghost use Rattle.std.specs.Vec.{made};
 ghost use Rattle.lengths.specs.Laws.{ReadsLength};
 ghost use Rattle.lengths.specs.Lengths.{pointsOf, lengthOf, missingAt, lengthAt};
-
 use crate::dimen::Dimen;
 use crate::dimen::dimen_in;
 use crate::order::Order;
@@ -29,7 +28,16 @@ fn points_in(s: &[u8]) -> Option<Length>
     ensures inside { λ r. ⌜ found r (λ l. (pos 0 ≤ℤ l .sp) × (l .sp ≤ℤ pos 16777215) × (1 ≤ l .end) × (l .end ≤ length (now (s .entry)))) ⌝ }
 {
     match dimen_in(s) {
-        Some(Dimen { size, order: Order::Points, len }) => Some(Length { sp: size as i64, end: len }),
+        Some(
+            Dimen {
+                size,
+                order: Order::Points,
+                len,
+            },
+        ) => Some(Length {
+            sp: size as i64,
+            end: len,
+        }),
         _ => None,
     }
 }
@@ -42,7 +50,10 @@ fn length_in(s: &[u8]) -> Option<Length>
     match s {
         [b'-', tail @ ..] => {
             let l = points_in(tail)?;
-            Some(Length { sp: -l.sp, end: 1 + l.end })
+            Some(Length {
+                sp: -l.sp,
+                end: 1 + l.end,
+            })
         }
         _ => points_in(s),
     }
@@ -73,7 +84,10 @@ pub fn length_at(text: &[u8], place: usize) -> Result<Length, Fault>
 {
     if place < text.len() {
         if let Some(l) = length_in(&text[place..]) {
-            return Ok(Length { sp: l.sp, end: place + l.end });
+            return Ok(Length {
+                sp: l.sp,
+                end: place + l.end,
+            });
         }
     }
     Err(missing(text, place))

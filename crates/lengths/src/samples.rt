@@ -3,7 +3,7 @@ ghost use Rattle.lengths.specs.Samples.{samples, Each};
 
 // Every row of the table stands.
 pub fn samples_stand() -> bool
-    ensures { λ _. ⌜ Each samples ⌝ }
+    ensures rows { λ _. ⌜ Each samples ⌝ }
 {
     true
 }

@@ -5,17 +5,20 @@ ghost use lib.IntN.{pos, negsuc};
 ghost use lib.Signed.{_≤ℤ_};
 ghost use Rattle.std.specs.Options.{mapped};
 ghost use Rattle.lengths.specs.Gaps.{parts, partsOf, naturalFits, stretchFits, gapOf, MakesGap};
-
 use crate::gap::Gap;
 use crate::order::Order;
 
 impl Gap {
-    // The gap of parts that are in their ranges.
+    // The gap of parts that are in their ranges: no other function makes one.
     pub(crate) fn of(natural: i64, stretch: i64, order: Order) -> Gap
         requires { ⌜ naturalFits natural ≡ true ⌝ ∗ ⌜ stretchFits stretch ≡ true ⌝ }
         ensures answer { λ r. ⌜ partsOf r ≡ parts natural stretch order ⌝ }
     {
-        Gap { natural, stretch, order }
+        Gap {
+            natural,
+            stretch,
+            order,
+        }
     }
 
     // A gap of these parts, or nothing where a number is out of its range.
@@ -33,6 +36,7 @@ impl Gap {
         Some(Gap::of(natural, stretch, order))
     }
 
+    // The natural length, within ±16,777,215.
     pub fn natural(self) -> i64
         ensures answer { λ r. ⌜ r ≡ partsOf self .natural ⌝ }
         ensures within { λ r. ⌜ (negsuc 16777214 ≤ℤ r) × (r ≤ℤ pos 16777215) ⌝ }
@@ -40,6 +44,7 @@ impl Gap {
         self.natural
     }
 
+    // The stretch, from 0 to 16,777,215.
     pub fn stretch(self) -> i64
         ensures answer { λ r. ⌜ r ≡ partsOf self .stretch ⌝ }
         ensures within { λ r. ⌜ (pos 0 ≤ℤ r) × (r ≤ℤ pos 16777215) ⌝ }
@@ -47,6 +52,7 @@ impl Gap {
         self.stretch
     }
 
+    // The order of the stretch.
     pub fn order(self) -> Order
         ensures answer { λ r. ⌜ r ≡ partsOf self .order ⌝ }
     {

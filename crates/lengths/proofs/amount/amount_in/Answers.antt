@@ -14,7 +14,7 @@ returns-in-Break-part c =
     rw (c .from-residual .ensures)
     (record {
       is = amount-none (c .args .s .now) (c .digit-run-n .result) (c .digit-run-n .ensures .is) (c .if-n-eq0 .left) (search needs)
-      (c .in-Break-part .ensures tt .is ∙ ap fractionOf (take-rest (c .args .s .now) (c .digit-run-n .result)));
+          (c .in-Break-part .ensures tt .is ∙ ap fractionOf (take-rest (c .args .s .now) (c .digit-run-n .result)));
       small = tt;
     })
 
@@ -26,7 +26,7 @@ returns c =
     let room : length (take (length s - n) (drop n s)) ≡ length s - n = ap length (take-rest s n) ∙ length-drop n s in
     record {
       is = amount-is s n (c .whole-value .result) (c .in-Continue-part .part) (c .digit-run-n .ensures .is) (c .if-n-eq0 .left) (search needs)
-      (c .whole-value .ensures .is)
-      (part .is ∙ ap fractionOf (take-rest s n));
+          (c .whole-value .ensures .is)
+          (part .is ∙ ap fractionOf (take-rest s n));
       small = (omega (arith, c .whole-value .ensures .small, part .small .0), omega arith, omega (arith, part .small .1, c .digit-run-n .ensures .inside));
     }

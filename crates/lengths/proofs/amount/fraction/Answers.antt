@@ -15,8 +15,8 @@ returns-in-46 c =
     let point : getD (c .args .s .now) 0 0 ≡ 46 = search needs in
     record {
       is = c .behind-point .ensures .is
-      ∙ sym (ap fractionOf (first-rest (c .args .s .now) 0 some) ∙ cond-true _ _ _ (eq-eqb _ 46 point));
+          ∙ sym (ap fractionOf (first-rest (c .args .s .now) 0 some) ∙ cond-true _ _ _ (eq-eqb _ 46 point));
       small = found-weaker (c .behind-point .result) _ _
-      (λ a h. (h .0, omega (arith, length-behind (c .args .s .now) some, h .1)))
-      (c .behind-point .ensures .small);
+          (λ a h. (h .0, omega (arith, length-behind (c .args .s .now) some, h .1)))
+          (c .behind-point .ensures .small);
     }

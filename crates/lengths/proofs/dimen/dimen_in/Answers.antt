@@ -14,7 +14,7 @@ returns-in-Break-unit c =
     rw (c .from-residual-in-Break-unit .ensures)
     (record {
       is = dimen-bare (c .args .s .now) (c .in-Continue-amount .amount) (c .in-Continue-amount .ensures tt .is)
-      (c .in-Break-unit .ensures tt .is ∙ ap measureOf (take-rest (c .args .s .now) (c .in-Continue-amount .amount .len)));
+          (c .in-Break-unit .ensures tt .is ∙ ap measureOf (take-rest (c .args .s .now) (c .in-Continue-amount .amount .len)));
       inside = tt;
     })
 
@@ -27,9 +27,9 @@ returns-then-amount-le-LARGEST c =
     let tail : length (take (length s - a .len) (drop (a .len) s)) ≡ length s - a .len = ap length (take-rest s (a .len)) ∙ length-drop (a .len) s in
     record {
       is = dimen-is s a (c .in-Continue-amount .ensures tt .is) m (c .space-len .result)
-      (c .in-Continue-unit .ensures tt .is ∙ ap measureOf (take-rest s (a .len)))
-      (search needs)
-      (c .space-len .ensures .is ∙ ap swallowed (take-rest s (a .len + m .len)));
+          (c .in-Continue-unit .ensures tt .is ∙ ap measureOf (take-rest s (a .len)))
+          (search needs)
+          (c .space-len .ensures .is ∙ ap swallowed (take-rest s (a .len + m .len)));
       inside = (search needs, omega (arith, c .in-Continue-amount .ensures tt .small .1), omega (arith, c .in-Continue-amount .ensures tt .small .2, c .in-Continue-unit .ensures tt .inside, c .space-len .ensures .inside));
     }
 
@@ -39,7 +39,7 @@ returns-else-amount-le-LARGEST c =
     let a = c .in-Continue-amount .amount in
     record {
       is = dimen-large s a (c .in-Continue-amount .ensures tt .is) (c .in-Continue-unit .unit)
-      (c .in-Continue-unit .ensures tt .is ∙ ap measureOf (take-rest s (a .len)))
-      (search needs);
+          (c .in-Continue-unit .ensures tt .is ∙ ap measureOf (take-rest s (a .len)))
+          (search needs);
       inside = tt;
     }

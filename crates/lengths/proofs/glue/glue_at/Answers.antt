@@ -42,8 +42,8 @@ returns-in-Break-stretch c =
     let l = c .in-Continue-length .length in
     let text = c .args .text .now in
     let e = glue-short text (c .args .place) l (c .in-Continue-length .ensures tt .answer) (c .spaces-end .result) (c .spaces-end .ensures .answer)
-      (c .if-begins .ensures tt .is ∙ ap (beginsWith (codes "plus")) (take-rest text (l .end)))
-      (c .in-Break-stretch .field-0 .0) (c .in-Break-stretch .ensures tt .is) in
+    (c .if-begins .ensures tt .is ∙ ap (beginsWith (codes "plus")) (take-rest text (l .end)))
+    (c .in-Break-stretch .field-0 .0) (c .in-Break-stretch .ensures tt .is) in
     rw (p .1, p .2) (record { answer = e; within = tt; law = reads-glue text (c .args .place) _ e })
 
 pub returns-in-Continue-stretch : need.returns-in-Continue-stretch
@@ -57,8 +57,8 @@ returns-in-Continue-stretch c =
     let stretch : toZ w64 (ofZ w64 (s .size)) ≡ s .size = omega (arith, ints, more .0, more .1) in
     let same = c .of-gap .ensures .answer ∙ ap (λ (z : ℤ). parts z (toZ w64 (ofZ w64 (s .size))) (s .order)) natural ∙ ap (λ (z : ℤ). parts (l .sp) z (s .order)) stretch in
     let e = glue-stretched text (c .args .place) l (c .in-Continue-length .ensures tt .answer) (c .spaces-end .result) (c .spaces-end .ensures .answer)
-      (c .if-begins .ensures tt .is ∙ ap (beginsWith (codes "plus")) (take-rest text (l .end)))
-      s _ same (c .in-Continue-stretch .ensures tt .is) in
+    (c .if-begins .ensures tt .is ∙ ap (beginsWith (codes "plus")) (take-rest text (l .end)))
+    s _ same (c .in-Continue-stretch .ensures tt .is) in
     let on = spaces-on text (l .end + 4) in
     record {
       answer = e;
@@ -73,6 +73,6 @@ returns-else-begins c =
     let told = c .in-Continue-length .ensures tt .within in
     let natural : toZ w64 (ofZ w64 (l .sp)) ≡ l .sp = omega (arith, ints, told .0, told .1) in
     let e = glue-plain text (c .args .place) l (c .in-Continue-length .ensures tt .answer)
-      _ (c .of-gap-else-begins .ensures .answer ∙ ap (λ (z : ℤ). parts z (pos 0) Points) natural)
-      (c .if-begins .ensures tt .is ∙ ap (beginsWith (codes "plus")) (take-rest text (l .end))) in
+    _ (c .of-gap-else-begins .ensures .answer ∙ ap (λ (z : ℤ). parts z (pos 0) Points) natural)
+    (c .if-begins .ensures tt .is ∙ ap (beginsWith (codes "plus")) (take-rest text (l .end))) in
     record { answer = e; within = (told .2, told .3); law = reads-glue text (c .args .place) _ e }

@@ -24,9 +24,9 @@ pub returns : need.returns
 returns c =
     record {
       is = ap Err (c .missing .ensures)
-      ∙ elim (c .if-place-text .came) [
-          then-place-text·in-rest w ↦ stretch-none (c .args .text .now) (c .args .place) (w .in-rest .ensures tt .is)
-        | else-place-text w ↦ stretch-past (c .args .text .now) (c .args .place) (w .if-place-text .left)
-        ];
+          ∙ elim (c .if-place-text .came) [
+            | then-place-text·in-rest w ↦ stretch-none (c .args .text .now) (c .args .place) (w .in-rest .ensures tt .is)
+            | else-place-text w ↦ stretch-past (c .args .text .now) (c .args .place) (w .if-place-text .left)
+          ];
       inside = tt;
     }

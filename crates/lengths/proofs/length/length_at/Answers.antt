@@ -32,8 +32,8 @@ returns c =
     let text = c .args .text .now in
     let place = c .args .place in
     let none : Err (missingAt text place) ≡ lengthAt text place = elim (c .if-place-text .came) [
-      then-place-text·in-rest w ↦ length-none text place (w .in-rest .ensures tt .is)
-    | else-place-text w ↦ length-past text place (w .if-place-text .left)
+      | then-place-text·in-rest w ↦ length-none text place (w .in-rest .ensures tt .is)
+      | else-place-text w ↦ length-past text place (w .if-place-text .left)
     ] in
     let e = ap Err (c .missing .ensures) ∙ none in
     record { answer = e; within = tt; law = reads-length text place _ e }
