@@ -1,6 +1,6 @@
 //! The class of each of the 256 bytes.
 ghost use mathlib.Core.Path.{_≡_};
-ghost use Rattle.reader.specs.Classes.{classOf};
+ghost use Rattle.reader.specs.Classes.{Classed, classOf};
 
 // What a byte is to the reader.
 #[derive(Clone, Copy, PartialEq, Eq, Debug)]
@@ -280,6 +280,8 @@ static CLASSES: [Class; 256] = [
 // The class of a byte.
 pub fn class_of(b: u8) -> Class
     ensures answer { λ r. ⌜ r ≡ classOf b ⌝ }
+    ensures law { λ r. ⌜ Classed b r ⌝ }
+    ensures only { λ r. ⌜ ((c : Class) → Classed b c → c ≡ r) ⌝ }
 {
     CLASSES[b as usize]
 }

@@ -3,16 +3,18 @@ ghost use mathlib.Core.Path.{_≡_};
 ghost use mathlib.Core.Bool.{true};
 ghost use mathlib.Core.List.{_∷_};
 ghost use Prim.Native.Nat.{_+_, _≤_, _<_, _^_};
-ghost use lib.ListN.{length, drop};
+ghost use lib.ListN.{length};
 ghost use Rattle.std.specs.shelf.Lists.{leading};
 ghost use Rattle.std.specs.shelf.Text.{sameBytes};
-ghost use Rattle.reader.specs.Tokens.{afterBackslash, belongs, controlWord, escapable, firstSpelled, lettersOf, markOf, nameByte, spacesEnd, spelled, tokenAt, tokenOf, wordByte, wordOf};
+ghost use Rattle.reader.specs.Classes.{IsSpecial};
+ghost use Rattle.reader.specs.Reads.{Alone, Letters-apart, Longest, Onward, Reads};
+ghost use Rattle.reader.specs.Tokens.{afterBackslash, belongs, blankByte, controlWord, escapable, firstSpelled, lettersOf, markOf, nameByte, spacesEnd, spelled, tokenAt, tokenOf, wordByte, wordOf};
 use crate::classes::Class;
 use crate::classes::class_of;
 use faults::Cause;
 use faults::Fault;
 
-// The control words, each after a backslash in its own letters.
+// The control words. Each is a backslash and its letters.
 #[derive(Clone, Copy, PartialEq, Eq, Debug)]
 pub enum Control {
     Kern,
@@ -26,6 +28,7 @@ pub enum Control {
     Vskip,
 }
 
+// What a text is made of.
 #[derive(Clone, Copy, PartialEq, Eq, Debug)]
 pub enum Token {
     // the text is over
@@ -36,9 +39,13 @@ pub enum Token {
     Word { place: usize, len: usize },
     // a control word and the spaces behind it
     Control(Control),
+    // `&`
     Ampersand,
+    // `#`
     Hash,
+    // `{`
     OpenBrace,
+    // `}`
     CloseBrace,
 }
 
@@ -66,6 +73,7 @@ impl Control {
     // The letters of a control word.
     pub fn spelling(self) -> &'static [u8]
         ensures answer { λ r. ⌜ now r ≡ lettersOf self ⌝ }
+        ensures apart { λ _. ⌜ Letters-apart ⌝ }
     {
         match self {
             Control::Kern => b"kern",
@@ -84,14 +92,18 @@ impl Control {
 // The bytes that a run is made of.
 #[derive(Clone, Copy)]
 enum Run {
+    // letters and other word bytes
     Word,
+    // space bytes
     Blank,
+    // letters alone
     Letters,
 }
 
 // A word has at most this many bytes.
 const LONGEST_WORD: usize = 255;
 
+// Whether a byte may stand in a run.
 fn in_run(run: Run, b: u8) -> bool
     ensures { λ r. ⌜ r ≡ belongs run b ⌝ }
 {
@@ -152,7 +164,7 @@ fn control_named(first: u8, more: &[u8]) -> Option<Control>
     first_spelled(&CONTROLS, first, more)
 }
 
-// What a backslash at `place` begins, with the letters `next` and those of `rest` behind it.
+// The control word at `place`: its letters are `next` and the longest run in `rest`, and the spaces behind them are skipped.
 fn control_word(next: u8, rest: &[u8], place: usize) -> Result<Lexeme, Fault>
     requires { ⌜ place + 2 + length (now rest) < 2 ^ 64 ⌝ }
     requires { ⌜ nameByte next ≡ true ⌝ }
@@ -172,7 +184,7 @@ fn control_word(next: u8, rest: &[u8], place: usize) -> Result<Lexeme, Fault>
     }
 }
 
-// What a backslash at `place` begins, with the byte `next` and then `rest` behind it.
+// What a backslash at `place` begins, with the byte `next` behind it and then `rest`.
 fn escape(next: u8, rest: &[u8], place: usize) -> Result<Lexeme, Fault>
     requires { ⌜ place + 2 + length (now rest) < 2 ^ 64 ⌝ }
     ensures { λ r. ⌜ r ≡ afterBackslash (next ∷ now (rest .entry)) place ⌝ }
@@ -209,13 +221,15 @@ fn word(s: &[u8], place: usize) -> Result<Lexeme, Fault>
 
 // The mark of a special byte other than the backslash.
 fn mark(b: u8) -> Token
+    requires { ⌜ IsSpecial b × (b ≡ 92 → ⊥) ⌝ }
     ensures { λ r. ⌜ r ≡ markOf b ⌝ }
 {
     match b {
         b'&' => Token::Ampersand,
         b'#' => Token::Hash,
         b'{' => Token::OpenBrace,
-        _ => Token::CloseBrace,
+        b'}' => Token::CloseBrace,
+        _ => unreachable(),
     }
 }
 
@@ -249,6 +263,9 @@ fn first(s: &[u8], place: usize) -> Result<Lexeme, Fault>
 // The token at a place of a text, and the place behind it.
 pub fn token_at(text: &[u8], place: usize) -> Result<Lexeme, Fault>
     ensures answer { λ r. ⌜ r ≡ tokenAt (now (text .entry)) place ⌝ }
+    ensures law { λ r. ⌜ Reads (now (text .entry)) place r ⌝ }
+    ensures only { λ r. ⌜ Alone (now (text .entry)) place r ⌝ }
+    ensures onward { λ r. ⌜ Onward (now (text .entry)) place r ⌝ }
 {
     if place >= text.len() {
         return Ok(Lexeme {
@@ -262,6 +279,7 @@ pub fn token_at(text: &[u8], place: usize) -> Result<Lexeme, Fault>
 // The place behind the longest run of space bytes at a place.
 pub fn spaces_end(text: &[u8], place: usize) -> usize
     ensures answer { λ r. ⌜ r ≡ spacesEnd (now (text .entry)) place ⌝ }
+    ensures law { λ r. ⌜ Longest blankByte (now (text .entry)) place r ⌝ }
 {
     if place >= text.len() {
         return place;

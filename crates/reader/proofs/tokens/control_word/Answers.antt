@@ -1,9 +1,6 @@
 use mathlib.Core.Path.{refl, ap, _∙_}
-use Prim.Native.Nat.{ℕ}
-use Rattle.std.specs.shelf.Lists.{leading}
 use Rattle.std.specs.declared.option.Option.the-variants.{Some, None}
 use Rattle.std.specs.declared.result.Result.the-variants.{Err}
-use Rattle.reader.specs.Tokens.{blankByte}
 use Rattle.reader.proofs.Backslash.{control-some}
 use Rattle.reader.proofs.tokens.control_word.Needs as need
 
