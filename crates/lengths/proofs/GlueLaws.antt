@@ -16,7 +16,8 @@ use Rattle.std.proofs.shelf.Tests.{cases-bool, cond-true, cond-false, le-leb, l
 use Rattle.faults.specs.declared.Fault.{Fault}
 use Rattle.faults.specs.declared.Cause.the-variants.{BadLength}
 use Rattle.faults.specs.Faults.{faultAt}
-use Rattle.reader.specs.Tokens.{spacesEnd}
+use Rattle.reader.specs.Tokens.{blankByte, spacesEnd}
+use Rattle.reader.proofs.Runs.{longest-one, spaces-longest}
 use Rattle.lengths.specs.declared.order.Order.{Order}
 use Rattle.lengths.specs.declared.order.Order.the-variants.{Points}
 use Rattle.lengths.specs.declared.dimen.Dimen.{Dimen}
@@ -27,11 +28,11 @@ use Rattle.lengths.specs.Lengths.{missingAt, lengthAt}
 use Rattle.lengths.specs.Gaps.{parts}
 use Rattle.lengths.specs.Glues.{GlueParts, stretchPlaced, stretchAt, stretched, glueAt}
 use Rattle.lengths.specs.Spelling.{Measures}
-use Rattle.lengths.specs.Laws.{Begins, Refused, ReadsGlue}
+use Rattle.lengths.specs.Laws.{Begins, Plus, ReadsGlue}
 use Rattle.lengths.proofs.Fronts.{begins-front, front-begins}
 use Rattle.lengths.proofs.Complete.{dimen-read}
 use Rattle.lengths.proofs.Sound.{dimen-spelled}
-use Rattle.lengths.proofs.Refusals.{missing-begun, missing-refused}
+use Rattle.lengths.proofs.Refusals.{missing-begun, missed}
 use Rattle.lengths.proofs.LengthLaws.{measures-first, begins-there}
 use Rattle.lengths.proofs.Glueing.{glue-refused, glue-plain, glue-plus}
 
@@ -68,21 +69,18 @@ begins-else s none =
     (λ f. sym f)
     (cases-bool (beginsWith (codes "plus") s))
 
+-- the place behind the spaces is the reader's
+at-stretch : (text : List ℕ) (place : ℕ) (l : Length) (at : ℕ) → lengthAt text place ≡ Ok l → Plus text l at → glueAt text place ≡ stretched (l .sp) (stretchAt text at)
+at-stretch text place l at h p =
+    sym (glue-plus text place l (sym h) (begins-plus (drop (l .end) text) (p .tail) (p .word)))
+    ∙ ap (λ (n : ℕ). stretched (l .sp) (stretchAt text n)) (longest-one blankByte text (l .end + 4) (spacesEnd text (l .end + 4)) at (spaces-longest text (l .end + 4)) (p .spaces))
+
 pub reads-glue : (text : List ℕ) (place : ℕ) (r : Result GlueParts Fault) → r ≡ glueAt text place → ReadsGlue text place r
 reads-glue text place r e =
     record {
       short = λ f h. e ∙ sym (glue-refused text place f (sym h));
       plain = λ l h none. e ∙ sym (glue-plain text place l (sym h) (parts (l .sp) (pos 0) Points) refl (begins-else (drop (l .end) text) none));
-      stretched = λ l tail h plus size o n m small.
-          e ∙ sym (glue-plus text place l (sym h) (begins-plus (drop (l .end) text) tail plus))
-          ∙ ap (stretched (l .sp)) (stretch-good text (spacesEnd text (l .end + 4)) size o n m small);
-      large = λ l tail h plus size o n m big.
-          e ∙ sym (glue-plus text place l (sym h) (begins-plus (drop (l .end) text) tail plus))
-          ∙ ap (stretched (l .sp)) (stretch-large text (spacesEnd text (l .end + 4)) size o n m big);
-      missing = λ l tail h plus none. (
-        missingAt text (spacesEnd text (l .end + 4)),
-        e ∙ sym (glue-plus text place l (sym h) (begins-plus (drop (l .end) text) tail plus))
-            ∙ ap (stretched (l .sp)) (stretch-missing text (spacesEnd text (l .end + 4)) none),
-        missing-refused text (spacesEnd text (l .end + 4)),
-      );
+      stretched = λ l at h p size o n m small. e ∙ at-stretch text place l at h p ∙ ap (stretched (l .sp)) (stretch-good text at size o n m small);
+      large = λ l at h p size o n m big. e ∙ at-stretch text place l at h p ∙ ap (stretched (l .sp)) (stretch-large text at size o n m big);
+      missing = λ l at h p none. (missingAt text at, e ∙ at-stretch text place l at h p ∙ ap (stretched (l .sp)) (stretch-missing text at none), missed text at);
     }

@@ -15,6 +15,7 @@ use Rattle.std.proofs.shelf.Tests.{cond-true, cond-false, and-from}
 use Rattle.std.proofs.shelf.Signed.{ints}
 use Rattle.faults.specs.declared.Fault.{Fault}
 use Rattle.reader.specs.Tokens.{spacesEnd}
+use Rattle.reader.proofs.Runs.{spaces-longest}
 use Rattle.lengths.specs.declared.order.Order.the-variants.{Points}
 use Rattle.lengths.specs.declared.length.Length.{Length}
 use Rattle.lengths.specs.declared.glue.Stretch.{Stretch}
@@ -30,8 +31,7 @@ pub stretch-fits : (z y : ℤ) → y ≡ z → pos 0 ≤ℤ z → z ≤ℤ pos 1
 stretch-fits z y e low high = ap stretchFits e ∙ and-from (leZ (pos 0) z) (leZ z (pos 16777215)) (grind (arith, ints)) (grind (arith, ints))
 
 pub spaces-on : (text : List ℕ) (place : ℕ) → place ≤ spacesEnd text place
-unfolding spacesEnd
-spaces-on text place = omega arith
+spaces-on text place = spaces-longest text place .onto
 
 module _ (text : List ℕ) (place : ℕ) where
   pub glue-refused : (f : Fault) → Err f ≡ lengthAt text place → Err f ≡ glueAt text place

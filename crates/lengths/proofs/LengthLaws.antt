@@ -26,10 +26,10 @@ use Rattle.lengths.specs.Orders.{unitText}
 use Rattle.lengths.specs.Dimens.{largest, dimenOf}
 use Rattle.lengths.specs.Lengths.{inPoints, byOrder, pointsOf, turned, lengthOf, missingAt, placed, lengthAt}
 use Rattle.lengths.specs.Spelling.{pointed, Measures, Lengths, sign, signed}
-use Rattle.lengths.specs.Laws.{Begins, Refused, ReadsLength}
+use Rattle.lengths.specs.Laws.{Begins, Missed, ReadsLength}
 use Rattle.lengths.proofs.Complete.{dimen-read}
 use Rattle.lengths.proofs.Sound.{some-is, none-some, dimen-spelled}
-use Rattle.lengths.proofs.Refusals.{missing-begun, missing-refused}
+use Rattle.lengths.proofs.Refusals.{missing-begun, missed}
 
 -- an amount begins with a digit
 pub measures-first : (s : List ℕ) (size : ℕ) (o : Order) (n : ℕ) → Measures s size o n → (0 < length s) × (48 ≤ getD s 0 0) × (getD s 0 0 ≤ 57)
@@ -161,8 +161,8 @@ module _ (text : List ℕ) (place : ℕ) where
       let q = length-spelled (drop place text) m e in
       (q .0, q .1, q .2, q .3, q .4, sym (ok-is got l h) ∙ ap (λ (x : Length). record { sp = x .sp; end = place + x .end }) (q .5))
 
-  refused-by : (f : Fault) (r : Option Length) → placed text place r ≡ Err f → Refused text place f
-  refused-by f None h = subst (Refused text place) (err-is (missingAt text place) f h) (missing-refused text place)
+  refused-by : (f : Fault) (r : Option Length) → placed text place r ≡ Err f → Missed text place f
+  refused-by f None h = subst (Missed text place) (err-is (missingAt text place) f h) (missed text place)
   refused-by f (Some m) h = absurd (ok-err (record { sp = m .sp; end = place + m .end }) f h)
 
   pub reads-length : (r : Result Length Fault) → r ≡ lengthAt text place → ReadsLength text place r

@@ -12,9 +12,8 @@ use Rattle.std.specs.declared.result.Result.the-variants.{Ok, Err}
 use Rattle.faults.specs.declared.Fault.{Fault}
 use Rattle.faults.specs.declared.Cause.the-variants.{BadByte, UnknownControl, BadLength}
 use Rattle.faults.specs.Faults.{faultAt}
-use Rattle.reader.specs.declared.classes.Class.the-variants.{Bad}
-use Rattle.reader.specs.Classes.{classOf}
-use Rattle.reader.specs.Tokens.{tokenAt, spacesEnd}
+use Rattle.reader.specs.Reads.{Longest, Stray, Unknown}
+use Rattle.reader.specs.Tokens.{blankByte}
 use Rattle.lengths.specs.declared.order.Order.{Order}
 use Rattle.lengths.specs.declared.order.Order.the-variants.{Points}
 use Rattle.lengths.specs.declared.length.Length.{Length}
@@ -28,16 +27,16 @@ use Rattle.lengths.specs.Spelling.{Measures, Lengths, signed}
 abbrev pub Begins : ℕ → Type 0
 Begins b = (b ≡ 45) ⊎ ((48 ≤ b) × (b ≤ 57))
 
--- a fault f is the right one where no length, or no stretch, stands at a place
-pub record Refused (text : List ℕ) (place : ℕ) (f : Fault) : Type 0 where
+-- the fault f is the right one where no length, or no stretch, stands at a place
+pub record Missed (text : List ℕ) (place : ℕ) (f : Fault) : Type 0 where
   -- at the end of the text
   pub over : length text ≤ place → f ≡ faultAt BadLength (length text)
   -- a bad byte
-  pub bad : place < length text → classOf (getD text place 0) ≡ Bad → f ≡ faultAt BadByte place
+  pub bad : Stray text place → f ≡ faultAt BadByte place
   -- a backslash with nothing known behind it
-  pub unknown : place < length text → tokenAt text place ≡ Err (faultAt UnknownControl place) → f ≡ faultAt UnknownControl place
+  pub unknown : Unknown text place → f ≡ faultAt UnknownControl place
   -- anything else
-  pub other : place < length text → (classOf (getD text place 0) ≡ Bad → ⊥) → (tokenAt text place ≡ Err (faultAt UnknownControl place) → ⊥) → f ≡ faultAt BadLength place
+  pub other : place < length text → (Stray text place → ⊥) → (Unknown text place → ⊥) → f ≡ faultAt BadLength place
   -- what begins as a length is ill-formed at its first byte
   pub begun : place < length text → Begins (getD text place 0) → f ≡ faultAt BadLength place
 
@@ -49,7 +48,13 @@ pub record ReadsLength (text : List ℕ) (place : ℕ) (r : Result Length Fault)
   pub large : (minus : Bool) (size n : ℕ) → Lengths (drop place text) minus size n → largest < size → r ≡ Err (faultAt BadLength place)
   -- nothing else is answered
   pub only : (l : Length) → r ≡ Ok l → (minus : Bool) × (size : ℕ) × (n : ℕ) × Lengths (drop place text) minus size n × (size ≤ largest) × (l ≡ record { sp = signed minus size; end = place + n })
-  pub refused : (f : Fault) → r ≡ Err f → Refused text place f
+  pub refused : (f : Fault) → r ≡ Err f → Missed text place f
+
+-- behind a length stands `plus`, and behind that and all spaces there the place at
+pub record Plus (text : List ℕ) (l : Length) (at : ℕ) : Type 0 where
+  pub tail : List ℕ
+  pub word : drop (l .end) text ≡ codes "plus" ++ tail
+  pub spaces : Longest blankByte text (l .end + 4) at
 
 -- the answer to glue at a place
 pub record ReadsGlue (text : List ℕ) (place : ℕ) (r : Result GlueParts Fault) : Type 0 where
@@ -57,9 +62,9 @@ pub record ReadsGlue (text : List ℕ) (place : ℕ) (r : Result GlueParts Fault
   pub short : (f : Fault) → lengthAt text place ≡ Err f → r ≡ Err f
   -- a length with no `plus` behind it does not stretch
   pub plain : (l : Length) → lengthAt text place ≡ Ok l → ((tail : List ℕ) → drop (l .end) text ≡ codes "plus" ++ tail → ⊥) → r ≡ Ok (record { gap = parts (l .sp) (pos 0) Points; end = l .end })
-  -- behind `plus` and all spaces there, a stretch within the limit is taken, ..
-  pub stretched : (l : Length) (tail : List ℕ) → lengthAt text place ≡ Ok l → drop (l .end) text ≡ codes "plus" ++ tail → (size : ℕ) (o : Order) (n : ℕ) → Measures (drop (spacesEnd text (l .end + 4)) text) size o n → size ≤ largest → r ≡ Ok (record { gap = parts (l .sp) (pos size) o; end = spacesEnd text (l .end + 4) + n })
+  -- behind `plus` and its spaces, a stretch within the limit is taken, ..
+  pub stretched : (l : Length) (at : ℕ) → lengthAt text place ≡ Ok l → Plus text l at → (size : ℕ) (o : Order) (n : ℕ) → Measures (drop at text) size o n → size ≤ largest → r ≡ Ok (record { gap = parts (l .sp) (pos size) o; end = at + n })
   -- .. one above it is refused at its first byte, ..
-  pub large : (l : Length) (tail : List ℕ) → lengthAt text place ≡ Ok l → drop (l .end) text ≡ codes "plus" ++ tail → (size : ℕ) (o : Order) (n : ℕ) → Measures (drop (spacesEnd text (l .end + 4)) text) size o n → largest < size → r ≡ Err (faultAt BadLength (spacesEnd text (l .end + 4)))
-  -- .. and where none stands there, that is refused as a missing length is
-  pub missing : (l : Length) (tail : List ℕ) → lengthAt text place ≡ Ok l → drop (l .end) text ≡ codes "plus" ++ tail → ((size : ℕ) (o : Order) (n : ℕ) → Measures (drop (spacesEnd text (l .end + 4)) text) size o n → ⊥) → (f : Fault) × (r ≡ Err f) × Refused text (spacesEnd text (l .end + 4)) f
+  pub large : (l : Length) (at : ℕ) → lengthAt text place ≡ Ok l → Plus text l at → (size : ℕ) (o : Order) (n : ℕ) → Measures (drop at text) size o n → largest < size → r ≡ Err (faultAt BadLength at)
+  -- .. and where none stands, that is refused as a missing length is
+  pub missing : (l : Length) (at : ℕ) → lengthAt text place ≡ Ok l → Plus text l at → ((size : ℕ) (o : Order) (n : ℕ) → Measures (drop at text) size o n → ⊥) → (f : Fault) × (r ≡ Err f) × Missed text at f
