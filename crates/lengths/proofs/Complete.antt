@@ -1,30 +1,27 @@
 -- What is spelled is read: from an amount with its unit to the definition's value. Assumes nothing.
-use mathlib.Core.Path.{_≡_, refl, sym, ap, subst, _∙_}
-use mathlib.Core.Logic.{⊎-elim, inl, inr, _⊎_}
-use mathlib.Core.Bool.{Bool, true, false, cond, _&&_, _||_}
+use mathlib.Core.Path.{_≡_, refl, sym, ap, _∙_}
+use mathlib.Core.Logic.{⊎-elim, _⊎_}
+use mathlib.Core.Bool.{true, false, cond}
 use mathlib.Core.List.{List, [], _∷_, _++_, append-assoc}
-use Prim.Native.Nat.{ℕ, zero, suc, _+_, _-_, _*_, _^_, _≤_, _<_}
+use Prim.Native.Nat.{ℕ, _+_, _-_, _*_, _^_, _≤_, _<_}
 use native.Mathlib.Numerals.{one-add, add-one}
 use native.Mathlib.Nat.{mul-le-mul-right}
 use native.Mathlib.Omega.{arith}
-use lib.Dec.{leb, ltb, eqb}
+use lib.Dec.{leb, eqb}
 use lib.ListN.{length, take, drop, length-append}
 use Rattle.std.specs.shelf.Lists.{leading}
-use Rattle.std.specs.declared.option.Option.{Option}
 use Rattle.std.specs.declared.option.Option.the-variants.{Some, None}
 use Rattle.std.proofs.shelf.Lists.{take-at, drop-at, drop-drop}
-use Rattle.std.proofs.shelf.Tests.{cases-bool, and-from, and-parts, and-cases, and-left, cond-true, cond-false, le-leb, or-from, ne-eqb, le-ltb, eqb-true, both-ways}
+use Rattle.std.proofs.shelf.Tests.{cases-bool, and-from, and-cases, and-left, cond-true, cond-false, le-leb, both-ways}
 use Rattle.lengths.specs.declared.amount.Amount.{Amount}
-use Rattle.lengths.specs.declared.dimen.Measure.{Measure}
-use Rattle.lengths.specs.declared.dimen.Dimen.{Dimen}
 use Rattle.lengths.specs.declared.order.Order.{Order}
 use Rattle.lengths.specs.declared.order.Order.the-variants.{Points, Fil, Fill, Filll}
 use Rattle.lengths.specs.Fractions.{Digits, Nearest, numeral, rounded}
 use Rattle.lengths.specs.Orders.{unitText}
-use Rattle.lengths.specs.Amounts.{digitByte, behindPoint, fractionOf, amountOf}
-use Rattle.lengths.specs.Dimens.{largest, swallowed, beginsWith, measured, measureOf, sized, dimenOf}
-use Rattle.lengths.specs.Spelling.{pointed, Amounts, Longest, Measures}
-use Rattle.lengths.proofs.Rounding.{nearest, ten-pos}
+use Rattle.lengths.specs.Amounts.{digitByte, fractionOf, amountOf}
+use Rattle.lengths.specs.Dimens.{largest, swallowed, beginsWith, measured, measureOf, dimenOf}
+use Rattle.lengths.specs.Spelling.{pointed, Longest, SpellsMeasure}
+use Rattle.lengths.proofs.Rounding.{nearest}
 use Rattle.lengths.proofs.Fronts.{front-begins}
 use Rattle.lengths.proofs.Spells.{part-is, amount-is}
 use Rattle.lengths.proofs.Units.{dimen-sized}
@@ -127,7 +124,7 @@ unit-read Fil rest longest =
     (cases-bool (beginsWith (108 ∷ []) rest))
 
 -- what is spelled is read, or refused for its size
-pub dimen-read : (s : List ℕ) (size : ℕ) (o : Order) (n : ℕ) → Measures s size o n → dimenOf s ≡ cond (leb size largest) (Some (record { size = size; order = o; len = n })) None
+pub dimen-read : (s : List ℕ) (size : ℕ) (o : Order) (n : ℕ) → SpellsMeasure s size o n → dimenOf s ≡ cond (leb size largest) (Some (record { size = size; order = o; len = n })) None
 dimen-read s size o n h =
     let a : Amount = record { size = size; len = length (h .bytes) } in
     let t = unitText o ++ h .rest in

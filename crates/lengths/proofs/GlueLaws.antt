@@ -1,13 +1,13 @@
 -- Glue: what is spelled is answered, and nothing else. Assumes nothing.
-use mathlib.Core.Path.{_≡_, refl, sym, ap, subst, _∙_}
+use mathlib.Core.Path.{_≡_, refl, sym, ap, _∙_}
 use mathlib.Core.Logic.{⊎-elim, inr}
-use mathlib.Core.Bool.{Bool, true, false, cond}
+use mathlib.Core.Bool.{true, false}
 use mathlib.Core.List.{List, _++_}
 use Prim.Native.Nat.{ℕ, _+_, _≤_, _<_}
 use lib.Chars.{codes}
 use lib.Dec.{leb}
 use lib.IntN.{pos}
-use lib.ListN.{length, drop}
+use lib.ListN.{drop}
 use Rattle.std.specs.declared.option.Option.{Option}
 use Rattle.std.specs.declared.option.Option.the-variants.{Some, None}
 use Rattle.std.specs.declared.result.Result.{Result}
@@ -22,13 +22,12 @@ use Rattle.lengths.specs.declared.order.Order.{Order}
 use Rattle.lengths.specs.declared.order.Order.the-variants.{Points}
 use Rattle.lengths.specs.declared.dimen.Dimen.{Dimen}
 use Rattle.lengths.specs.declared.length.Length.{Length}
-use Rattle.lengths.specs.declared.glue.Stretch.{Stretch}
 use Rattle.lengths.specs.Dimens.{largest, beginsWith, dimenOf}
 use Rattle.lengths.specs.Lengths.{missingAt, lengthAt}
 use Rattle.lengths.specs.Gaps.{parts}
 use Rattle.lengths.specs.Glues.{GlueParts, stretchPlaced, stretchAt, stretched, glueAt}
-use Rattle.lengths.specs.Spelling.{Measures}
-use Rattle.lengths.specs.Laws.{Begins, Plus, ReadsGlue}
+use Rattle.lengths.specs.Spelling.{SpellsMeasure}
+use Rattle.lengths.specs.Laws.{Plus, ReadsGlue}
 use Rattle.lengths.proofs.Fronts.{begins-front, front-begins}
 use Rattle.lengths.proofs.Complete.{dimen-read}
 use Rattle.lengths.proofs.Sound.{dimen-spelled}
@@ -37,12 +36,12 @@ use Rattle.lengths.proofs.LengthLaws.{measures-first, begins-there}
 use Rattle.lengths.proofs.Glueing.{glue-refused, glue-plain, glue-plus}
 
 module _ (text : List ℕ) (at : ℕ) where
-  pub stretch-good : (size : ℕ) (o : Order) (n : ℕ) → Measures (drop at text) size o n → size ≤ largest → stretchAt text at ≡ Ok (record { size = pos size; order = o; end = at + n })
+  pub stretch-good : (size : ℕ) (o : Order) (n : ℕ) → SpellsMeasure (drop at text) size o n → size ≤ largest → stretchAt text at ≡ Ok (record { size = pos size; order = o; end = at + n })
   unfolding stretchAt
   stretch-good size o n h small =
       ap (stretchPlaced text at) (dimen-read (drop at text) size o n h ∙ cond-true (leb size largest) (Some (record { size = size; order = o; len = n })) None (le-leb size largest small))
 
-  pub stretch-large : (size : ℕ) (o : Order) (n : ℕ) → Measures (drop at text) size o n → largest < size → stretchAt text at ≡ Err (faultAt BadLength at)
+  pub stretch-large : (size : ℕ) (o : Order) (n : ℕ) → SpellsMeasure (drop at text) size o n → largest < size → stretchAt text at ≡ Err (faultAt BadLength at)
   unfolding stretchAt
   stretch-large size o n h big =
       let m = measures-first (drop at text) size o n h in
@@ -50,11 +49,11 @@ module _ (text : List ℕ) (at : ℕ) where
       ap (stretchPlaced text at) (dimen-read (drop at text) size o n h ∙ cond-false (leb size largest) (Some (record { size = size; order = o; len = n })) None (lt-leb size largest big))
       ∙ ap Err (missing-begun text at (first .0) (first .1))
 
-  no-dimen : (r : Option Dimen) → dimenOf (drop at text) ≡ r → ((size : ℕ) (o : Order) (n : ℕ) → Measures (drop at text) size o n → ⊥) → r ≡ None
+  no-dimen : (r : Option Dimen) → dimenOf (drop at text) ≡ r → ((size : ℕ) (o : Order) (n : ℕ) → SpellsMeasure (drop at text) size o n → ⊥) → r ≡ None
   no-dimen None e none = refl
   no-dimen (Some d) e none = absurd (none (d .size) (d .order) (d .len) (dimen-spelled (drop at text) d e .0))
 
-  pub stretch-missing : ((size : ℕ) (o : Order) (n : ℕ) → Measures (drop at text) size o n → ⊥) → stretchAt text at ≡ Err (missingAt text at)
+  pub stretch-missing : ((size : ℕ) (o : Order) (n : ℕ) → SpellsMeasure (drop at text) size o n → ⊥) → stretchAt text at ≡ Err (missingAt text at)
   unfolding stretchAt
   stretch-missing none = ap (stretchPlaced text at) (no-dimen (dimenOf (drop at text)) refl none)
 

@@ -1,16 +1,14 @@
 -- Glue at a place of a text, case by case. Assumes nothing.
-use mathlib.Core.Path.{_≡_, refl, sym, ap, _∙_}
-use mathlib.Core.Bool.{true, false, cond}
+use mathlib.Core.Path.{_≡_, sym, ap, _∙_}
+use mathlib.Core.Bool.{true, false}
 use mathlib.Core.List.{List}
 use Prim.Native.Nat.{ℕ, _+_, _-_, _≤_}
 use native.Mathlib.Omega.{arith}
 use lib.Chars.{codes}
 use lib.IntN.{ℤ, pos, negsuc}
 use lib.Signed.{leZ, _≤ℤ_}
-use lib.ListN.{length, take, drop}
-use Rattle.std.specs.declared.result.Result.{Result}
+use lib.ListN.{drop}
 use Rattle.std.specs.declared.result.Result.the-variants.{Ok, Err}
-use Rattle.std.proofs.shelf.Lists.{take-rest}
 use Rattle.std.proofs.shelf.Tests.{cond-true, cond-false, and-from}
 use Rattle.std.proofs.shelf.Signed.{ints}
 use Rattle.faults.specs.declared.Fault.{Fault}
@@ -22,7 +20,7 @@ use Rattle.lengths.specs.declared.glue.Stretch.{Stretch}
 use Rattle.lengths.specs.Dimens.{beginsWith}
 use Rattle.lengths.specs.Lengths.{lengthAt}
 use Rattle.lengths.specs.Gaps.{Parts, parts, naturalFits, stretchFits}
-use Rattle.lengths.specs.Glues.{GlueParts, stretchAt, stretched, behindLength, glueAt}
+use Rattle.lengths.specs.Glues.{stretchAt, stretched, behindLength, glueAt}
 
 pub natural-fits : (z y : ℤ) → y ≡ z → negsuc 16777214 ≤ℤ z → z ≤ℤ pos 16777215 → naturalFits y ≡ true
 natural-fits z y e low high = ap naturalFits e ∙ and-from (leZ (negsuc 16777214) z) (leZ z (pos 16777215)) (grind (arith, ints)) (grind (arith, ints))

@@ -7,13 +7,13 @@ use Prim.Native.Nat.{ℕ, _+_, _-_, _≤_, _<_}
 use native.Mathlib.Omega.{arith}
 use lib.Dec.{leb, eqb}
 use lib.IntN.{ℤ, pos, negℤ}
-use lib.ListN.{length, getD, take, drop, length-drop}
+use lib.ListN.{length, getD, drop, length-drop}
 use lib.Seq.{getD-drop}
 use Rattle.std.specs.declared.option.Option.{Option}
 use Rattle.std.specs.declared.option.Option.the-variants.{Some, None}
 use Rattle.std.specs.declared.result.Result.{Result}
 use Rattle.std.specs.declared.result.Result.the-variants.{Ok, Err}
-use Rattle.std.proofs.shelf.Tests.{cases-bool, cond-true, cond-false, eqb-true, ne-eqb, le-leb, lt-leb, both-ways}
+use Rattle.std.proofs.shelf.Tests.{cases-bool, cond-true, cond-false, eqb-true, ne-eqb, le-leb, lt-leb}
 use Rattle.faults.specs.declared.Fault.{Fault}
 use Rattle.faults.specs.declared.Cause.the-variants.{BadLength}
 use Rattle.faults.specs.Faults.{faultAt}
@@ -25,14 +25,14 @@ use Rattle.lengths.specs.Fractions.{Digits}
 use Rattle.lengths.specs.Orders.{unitText}
 use Rattle.lengths.specs.Dimens.{largest, dimenOf}
 use Rattle.lengths.specs.Lengths.{inPoints, byOrder, pointsOf, turned, lengthOf, missingAt, placed, lengthAt}
-use Rattle.lengths.specs.Spelling.{pointed, Measures, Lengths, sign, signed}
+use Rattle.lengths.specs.Spelling.{pointed, SpellsMeasure, SpellsLength, sign, signed}
 use Rattle.lengths.specs.Laws.{Begins, Missed, ReadsLength}
 use Rattle.lengths.proofs.Complete.{dimen-read}
 use Rattle.lengths.proofs.Sound.{some-is, none-some, dimen-spelled}
 use Rattle.lengths.proofs.Refusals.{missing-begun, missed}
 
 -- an amount begins with a digit
-pub measures-first : (s : List ℕ) (size : ℕ) (o : Order) (n : ℕ) → Measures s size o n → (0 < length s) × (48 ≤ getD s 0 0) × (getD s 0 0 ≤ 57)
+pub measures-first : (s : List ℕ) (size : ℕ) (o : Order) (n : ℕ) → SpellsMeasure s size o n → (0 < length s) × (48 ≤ getD s 0 0) × (getD s 0 0 ≤ 57)
 measures-first s size o n h =
     let q = h .amount in
     let text : s ≡ (q .whole ++ pointed (q .fraction)) ++ (unitText o ++ h .rest) = h .spelled ∙ ap (λ (x : List ℕ). x ++ (unitText o ++ h .rest)) (q .spelled) in
@@ -47,7 +47,7 @@ pub bare-length : (s : List ℕ) → 48 ≤ getD s 0 0 → lengthOf s ≡ points
 bare-length [] h = absurd (omega arith)
 bare-length (b ∷ s) h = cond-false (eqb b 45) (turned (pointsOf s)) (pointsOf (b ∷ s)) (ne-eqb b 45 (λ e. absurd (omega arith)))
 
-points-read : (s : List ℕ) (size n : ℕ) → Measures s size Points n → pointsOf s ≡ cond (leb size largest) (Some (record { sp = pos size; end = n })) None
+points-read : (s : List ℕ) (size n : ℕ) → SpellsMeasure s size Points n → pointsOf s ≡ cond (leb size largest) (Some (record { sp = pos size; end = n })) None
 points-read s size n h =
     ap inPoints (dimen-read s size Points n h)
     ∙ ⊎-elim
@@ -59,7 +59,7 @@ turn-cond : (b : Bool) (l : Length) → turned (cond b (Some l) None) ≡ cond b
 turn-cond true l = refl
 turn-cond false l = refl
 
-pub length-read : (s : List ℕ) (minus : Bool) (size n : ℕ) → Lengths s minus size n → lengthOf s ≡ cond (leb size largest) (Some (record { sp = signed minus size; end = n })) None
+pub length-read : (s : List ℕ) (minus : Bool) (size n : ℕ) → SpellsLength s minus size n → lengthOf s ≡ cond (leb size largest) (Some (record { sp = signed minus size; end = n })) None
 length-read s true size n h =
     ap lengthOf (h .spelled)
     ∙ ap turned (points-read (h .tail) size (h .used) (h .amount))
@@ -73,26 +73,26 @@ length-read s false size n h =
 
 -- a length without a sign that was read
 module _ (s : List ℕ) (l : Length) where
-  by-order : (d : Dimen) (o : Order) → dimenOf s ≡ Some d → d .order ≡ o → byOrder o (d .size) (d .len) ≡ Some l → (size : ℕ) × Measures s size Points (l .end) × (size ≤ largest) × (l .sp ≡ pos size)
+  by-order : (d : Dimen) (o : Order) → dimenOf s ≡ Some d → d .order ≡ o → byOrder o (d .size) (d .len) ≡ Some l → (size : ℕ) × SpellsMeasure s size Points (l .end) × (size ≤ largest) × (l .sp ≡ pos size)
   by-order d Fil e k h = absurd (none-some l h)
   by-order d Fill e k h = absurd (none-some l h)
   by-order d Filll e k h = absurd (none-some l h)
   by-order d Points e k h =
       let spelled = dimen-spelled s d e in
       let got : Length = record { sp = pos (d .size); end = d .len } in
-      subst (λ (x : Length). (size : ℕ) × Measures s size Points (x .end) × (size ≤ largest) × (x .sp ≡ pos size)) (some-is got l h)
-      (d .size, subst (λ (o : Order). Measures s (d .size) o (d .len)) k (spelled .0), spelled .1, refl)
+      subst (λ (x : Length). (size : ℕ) × SpellsMeasure s size Points (x .end) × (size ≤ largest) × (x .sp ≡ pos size)) (some-is got l h)
+      (d .size, subst (λ (o : Order). SpellsMeasure s (d .size) o (d .len)) k (spelled .0), spelled .1, refl)
 
-  by-dimen : (r : Option Dimen) → dimenOf s ≡ r → inPoints r ≡ Some l → (size : ℕ) × Measures s size Points (l .end) × (size ≤ largest) × (l .sp ≡ pos size)
+  by-dimen : (r : Option Dimen) → dimenOf s ≡ r → inPoints r ≡ Some l → (size : ℕ) × SpellsMeasure s size Points (l .end) × (size ≤ largest) × (l .sp ≡ pos size)
   by-dimen None e h = absurd (none-some l h)
   by-dimen (Some d) e h = by-order d (d .order) e refl h
 
-  points-spelled : pointsOf s ≡ Some l → (size : ℕ) × Measures s size Points (l .end) × (size ≤ largest) × (l .sp ≡ pos size)
+  points-spelled : pointsOf s ≡ Some l → (size : ℕ) × SpellsMeasure s size Points (l .end) × (size ≤ largest) × (l .sp ≡ pos size)
   points-spelled h = by-dimen (dimenOf s) refl h
 
 -- what is spelled where a length was read
 abbrev pub Spelled : List ℕ → Length → Type 0
-Spelled s l = (minus : Bool) × (size : ℕ) × (n : ℕ) × Lengths s minus size n × (size ≤ largest) × (l ≡ record { sp = signed minus size; end = n })
+Spelled s l = (minus : Bool) × (size : ℕ) × (n : ℕ) × SpellsLength s minus size n × (size ≤ largest) × (l ≡ record { sp = signed minus size; end = n })
 
 same-length : (l : Length) (z : ℤ) (n : ℕ) → l .sp ≡ z → l .end ≡ n → l ≡ record { sp = z; end = n }
 same-length l z n e k = ap (λ (x : ℤ). record { sp = x; end = l .end }) e ∙ ap (λ (m : ℕ). record { sp = z; end = m }) k
@@ -116,7 +116,7 @@ length-spelled (b ∷ bs) l h =
     (cases-bool (eqb b 45))
 
 -- a length begins with a digit or a minus
-lengths-first : (s : List ℕ) (minus : Bool) (size n : ℕ) → Lengths s minus size n → (0 < length s) × Begins (getD s 0 0)
+lengths-first : (s : List ℕ) (minus : Bool) (size n : ℕ) → SpellsLength s minus size n → (0 < length s) × Begins (getD s 0 0)
 lengths-first s true size n h = subst (λ (x : List ℕ). (0 < length x) × Begins (getD x 0 0)) (sym (h .spelled)) (omega arith, inl refl)
 lengths-first s false size n h =
     let m = measures-first (h .tail) size Points (h .used) (h .amount) in
@@ -138,12 +138,12 @@ begins-there text place h =
     (omega (arith, h .0, length-drop place text), subst Begins e (h .1))
 
 module _ (text : List ℕ) (place : ℕ) where
-  good : (minus : Bool) (size n : ℕ) → Lengths (drop place text) minus size n → size ≤ largest → lengthAt text place ≡ Ok (record { sp = signed minus size; end = place + n })
+  good : (minus : Bool) (size n : ℕ) → SpellsLength (drop place text) minus size n → size ≤ largest → lengthAt text place ≡ Ok (record { sp = signed minus size; end = place + n })
   unfolding lengthAt
   good minus size n h small =
       ap (placed text place) (length-read (drop place text) minus size n h ∙ cond-true (leb size largest) (Some (record { sp = signed minus size; end = n })) None (le-leb size largest small))
 
-  large : (minus : Bool) (size n : ℕ) → Lengths (drop place text) minus size n → largest < size → lengthAt text place ≡ Err (faultAt BadLength place)
+  large : (minus : Bool) (size n : ℕ) → SpellsLength (drop place text) minus size n → largest < size → lengthAt text place ≡ Err (faultAt BadLength place)
   unfolding lengthAt
   large minus size n h big =
       let first = begins-there text place (lengths-first (drop place text) minus size n h) in
@@ -151,7 +151,7 @@ module _ (text : List ℕ) (place : ℕ) where
       ∙ ap Err (missing-begun text place (first .0) (first .1))
 
   Only : Length → Type 0
-  Only l = (minus : Bool) × (size : ℕ) × (n : ℕ) × Lengths (drop place text) minus size n × (size ≤ largest) × (l ≡ record { sp = signed minus size; end = place + n })
+  Only l = (minus : Bool) × (size : ℕ) × (n : ℕ) × SpellsLength (drop place text) minus size n × (size ≤ largest) × (l ≡ record { sp = signed minus size; end = place + n })
 
   only-by : (l : Length) (r : Option Length) → lengthOf (drop place text) ≡ r → placed text place r ≡ Ok l → Only l
   unfolding Only

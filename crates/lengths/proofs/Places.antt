@@ -1,6 +1,6 @@
 -- Lengths at a place of a text. Assumes nothing.
-use mathlib.Core.Path.{_≡_, refl, sym, ap, _∙_}
-use mathlib.Core.List.{List, []}
+use mathlib.Core.Path.{_≡_, sym, ap, _∙_}
+use mathlib.Core.List.{List}
 use Prim.Native.Nat.{ℕ, _+_, _-_, _≤_}
 use lib.IntN.{ℤ, pos}
 use lib.ListN.{length, take, drop, length-drop}
@@ -10,7 +10,7 @@ use Rattle.std.proofs.shelf.Lists.{take-rest, drop-all}
 use Rattle.lengths.specs.declared.length.Length.{Length}
 use Rattle.lengths.specs.declared.dimen.Dimen.{Dimen}
 use Rattle.lengths.specs.Dimens.{dimenOf}
-use Rattle.lengths.specs.Glues.{stretchPlaced, stretchAt, stretched, behindLength, glueAt}
+use Rattle.lengths.specs.Glues.{stretchPlaced, stretchAt}
 use Rattle.lengths.specs.Lengths.{lengthOf, missingAt, placed, lengthAt}
 
 pub length-rest : (text : List ℕ) (place : ℕ) → length (take (length text - place) (drop place text)) ≡ length text - place

@@ -1,10 +1,10 @@
 -- Rounding down from the last digit on loses nothing: the steps give the exact quotient. Assumes nothing.
-use mathlib.Core.Path.{_≡_, refl, sym, ap, subst, _∙_}
+use mathlib.Core.Path.{_≡_, refl, sym, ap, _∙_}
 use mathlib.Core.List.{List, [], _∷_, map}
-use Prim.Native.Nat.{ℕ, suc, _+_, _-_, _*_, _/_, _^_, _≤_, _<_}
-use lib.ListN.{length, length-map}
+use Prim.Native.Nat.{ℕ, _+_, _-_, _*_, _/_, _^_, _≤_, _<_}
+use lib.ListN.{length}
 use native.Mathlib.Omega.{arith}
-use native.Mathlib.Nat.{pow-suc, one-le-pow, add-mul-div-right, div-div-eq-div-mul, div-one, div-mul-le-self, lt-div-mul-add, mul-le-mul-right}
+use native.Mathlib.Nat.{pow-suc, one-le-pow, add-mul-div-right, div-div-eq-div-mul, div-mul-le-self, lt-div-mul-add, mul-le-mul-right}
 use Rattle.std.specs.shelf.Digits.{number, numberAfter}
 use Rattle.lengths.specs.Fractions.{scaled, rounded, numeral, Nearest}
 

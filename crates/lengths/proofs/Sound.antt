@@ -1,9 +1,9 @@
 -- What is read is spelled: from the definition's value back to an amount with its unit. Assumes nothing.
 use mathlib.Core.Path.{_≡_, refl, sym, ap, subst, _∙_}
 use mathlib.Core.Logic.{_⊎_, ⊎-elim}
-use mathlib.Core.Bool.{Bool, true, false, cond, _||_}
+use mathlib.Core.Bool.{true, false, cond, _||_}
 use mathlib.Core.List.{List, [], _∷_, _++_}
-use Prim.Native.Nat.{ℕ, suc, _+_, _-_, _*_, _≤_, _<_}
+use Prim.Native.Nat.{ℕ, _+_, _-_, _*_, _≤_, _<_}
 use native.Mathlib.Numerals.{add-one}
 use native.Mathlib.Omega.{arith}
 use lib.Dec.{leb, ltb, eqb}
@@ -25,7 +25,7 @@ use Rattle.lengths.specs.Fractions.{Digits, Nearest, numeral, rounded}
 use Rattle.lengths.specs.Orders.{unitText}
 use Rattle.lengths.specs.Amounts.{digitByte, behindPoint, fractionOf, withFraction, amountOf}
 use Rattle.lengths.specs.Dimens.{largest, swallowed, beginsWith, measured, measureOf, withMeasure, withUnit, dimenOf}
-use Rattle.lengths.specs.Spelling.{pointed, Amounts, Longest, Measures}
+use Rattle.lengths.specs.Spelling.{pointed, SpellsAmount, Longest, SpellsMeasure}
 use Rattle.lengths.proofs.Rounding.{nearest}
 use Rattle.lengths.proofs.Runs.{run-digits}
 use Rattle.lengths.proofs.Fronts.{front-begins, begins-front}
@@ -93,7 +93,7 @@ fraction-part (b ∷ bs) f e =
 
 -- the bytes of an amount that was read
 module _ (s : List ℕ) where
-  whole-part : (a : Amount) (r : Option Amount) → (leading digitByte s ≡ 0 → ⊥) → leading digitByte s ≤ 8 → fractionOf (drop (leading digitByte s) s) ≡ r → withFraction (numeral (take (leading digitByte s) s)) (leading digitByte s) r ≡ Some a → Amounts (take (a .len) s) (a .size) × (a .len ≤ length s)
+  whole-part : (a : Amount) (r : Option Amount) → (leading digitByte s ≡ 0 → ⊥) → leading digitByte s ≤ 8 → fractionOf (drop (leading digitByte s) s) ≡ r → withFraction (numeral (take (leading digitByte s) s)) (leading digitByte s) r ≡ Some a → SpellsAmount (take (a .len) s) (a .size) × (a .len ≤ length s)
   whole-part a None some few e h = absurd (none-some a h)
   whole-part a (Some f) some few e h =
       let n = leading digitByte s in
@@ -103,7 +103,7 @@ module _ (s : List ℕ) where
       let got : Amount = record { size = numeral (take n s) * 65536 + f .size; len = n + f .len } in
       let front : take (n + f .len) s ≡ take n s ++ pointed (p .digits) = take-add n (f .len) s ∙ ap (λ (t : List ℕ). take n s ++ t) (p .front) in
       let room : f .len ≤ length s - n = omega (arith, p .count, ap length (p .front), length-take (f .len) (drop n s), length-drop n s) in
-      let first : Amounts (take (n + f .len) s) (numeral (take n s) * 65536 + f .size) = record {
+      let first : SpellsAmount (take (n + f .len) s) (numeral (take n s) * 65536 + f .size) = record {
         whole = take n s;
         fraction = p .digits;
         part = f .size;
@@ -116,9 +116,9 @@ module _ (s : List ℕ) where
         nearest = subst (Nearest (p .digits)) (sym (p .value)) (nearest (p .digits));
         value = refl;
       } in
-      subst (λ (x : Amount). Amounts (take (x .len) s) (x .size) × (x .len ≤ length s)) (some-is got a h) (first, omega arith)
+      subst (λ (x : Amount). SpellsAmount (take (x .len) s) (x .size) × (x .len ≤ length s)) (some-is got a h) (first, omega arith)
 
-  amount-spelled : (a : Amount) → amountOf s ≡ Some a → Amounts (take (a .len) s) (a .size) × (a .len ≤ length s)
+  amount-spelled : (a : Amount) → amountOf s ≡ Some a → SpellsAmount (take (a .len) s) (a .size) × (a .len ≤ length s)
   amount-spelled a e =
       let n = leading digitByte s in
       let read = withFraction (numeral (take n s)) n (fractionOf (drop n s)) in
@@ -189,7 +189,7 @@ module _ (t : List ℕ) (m : Measure) where
       (λ _ e₄. absurd (none-some m e₄)))))
 
 module _ (s : List ℕ) (d : Dimen) where
-  measure-spelled : (a : Amount) (r : Option Measure) → amountOf s ≡ Some a → measureOf (drop (a .len) s) ≡ r → withMeasure s a r ≡ Some d → Measures s (d .size) (d .order) (d .len) × (d .size ≤ largest)
+  measure-spelled : (a : Amount) (r : Option Measure) → amountOf s ≡ Some a → measureOf (drop (a .len) s) ≡ r → withMeasure s a r ≡ Some d → SpellsMeasure s (d .size) (d .order) (d .len) × (d .size ≤ largest)
   measure-spelled a None e u h = absurd (none-some d h)
   measure-spelled a (Some m) e u h =
       let used = a .len + m .len in
@@ -199,7 +199,7 @@ module _ (s : List ℕ) (d : Dimen) where
       let rest = drop (m .len) (drop (a .len) s) in
       let over : drop used s ≡ rest = sym (drop-drop (m .len) (a .len) s) in
       let count : length (take (a .len) s) ≡ a .len = length-take-le (a .len) s (amount .1) in
-      let spelled : Measures s (a .size) (m .order) (used + swallowed (drop used s)) = record {
+      let spelled : SpellsMeasure s (a .size) (m .order) (used + swallowed (drop used s)) = record {
         bytes = take (a .len) s;
         rest = rest;
         spelled = sym (take-append-drop (a .len) s) ∙ ap (λ (t : List ℕ). take (a .len) s ++ t) (unit .front);
@@ -208,16 +208,16 @@ module _ (s : List ℕ) (d : Dimen) where
         len = ap (λ (t : List ℕ). used + swallowed t) over ∙ omega (arith, count, unit .count);
       } in
       ⊎-elim
-      (λ good. subst (λ (x : Dimen). Measures s (x .size) (x .order) (x .len) × (x .size ≤ largest))
+      (λ good. subst (λ (x : Dimen). SpellsMeasure s (x .size) (x .order) (x .len) × (x .size ≤ largest))
       (some-is got d (sym (cond-true (leb (a .size) largest) (Some got) None good) ∙ h))
       (spelled, leb-true (a .size) largest good))
       (λ bad. absurd (none-some d (sym (cond-false (leb (a .size) largest) (Some got) None bad) ∙ h)))
       (cases-bool (leb (a .size) largest))
 
-  amount-first : (r : Option Amount) → amountOf s ≡ r → withUnit s r ≡ Some d → Measures s (d .size) (d .order) (d .len) × (d .size ≤ largest)
+  amount-first : (r : Option Amount) → amountOf s ≡ r → withUnit s r ≡ Some d → SpellsMeasure s (d .size) (d .order) (d .len) × (d .size ≤ largest)
   amount-first None e h = absurd (none-some d h)
   amount-first (Some a) e h = measure-spelled a (measureOf (drop (a .len) s)) e refl h
 
   -- what is read is spelled, and not too large
-  pub dimen-spelled : dimenOf s ≡ Some d → Measures s (d .size) (d .order) (d .len) × (d .size ≤ largest)
+  pub dimen-spelled : dimenOf s ≡ Some d → SpellsMeasure s (d .size) (d .order) (d .len) × (d .size ≤ largest)
   dimen-spelled h = amount-first (amountOf s) refl h

@@ -1,17 +1,17 @@
 -- Steps of reading an amount, over plain lists. Assumes nothing.
-use mathlib.Core.Path.{_≡_, refl, sym, ap, _∙_}
-use mathlib.Core.Bool.{true, false, cond, _||_}
+use mathlib.Core.Path.{_≡_, sym, ap, _∙_}
+use mathlib.Core.Bool.{false, _||_}
 use mathlib.Core.List.{List, [], _∷_}
 use Prim.Native.Nat.{ℕ, _+_, _-_, _*_, _≤_, _<_}
 use native.Mathlib.Omega.{arith}
 use lib.Dec.{eqb, ltb}
-use lib.ListN.{length, getD, take, drop}
+use lib.ListN.{length, take, drop}
 use Rattle.std.specs.shelf.Lists.{leading}
 use Rattle.std.specs.declared.option.Option.{Option}
 use Rattle.std.specs.declared.option.Option.the-variants.{Some, None}
 use Rattle.std.specs.Slices.{found}
 use Rattle.std.proofs.shelf.Lists.{take-rest}
-use Rattle.std.proofs.shelf.Tests.{cond-true, cond-false, or-from, ne-eqb, le-ltb}
+use Rattle.std.proofs.shelf.Tests.{cond-false, or-from, ne-eqb, le-ltb}
 use Rattle.lengths.specs.declared.amount.Amount.{Amount}
 use Rattle.lengths.specs.Fractions.{numeral, rounded}
 use Rattle.lengths.specs.Amounts.{digitByte, behindPoint, fractionOf, withFraction, behindDigits, amountOf}

@@ -1,6 +1,5 @@
 -- Steps of reading an amount with its unit, over plain lists. Assumes nothing.
-use mathlib.Core.Path.{_≡_, refl, sym, ap, _∙_}
-use mathlib.Core.Bool.{cond}
+use mathlib.Core.Path.{_≡_, sym, ap, _∙_}
 use mathlib.Core.List.{List}
 use Prim.Native.Nat.{ℕ, _+_, _≤_, _<_}
 use lib.Dec.{leb}
@@ -9,7 +8,6 @@ use Rattle.std.specs.declared.option.Option.the-variants.{Some, None}
 use Rattle.std.proofs.shelf.Tests.{cond-true, cond-false, le-leb, lt-leb}
 use Rattle.lengths.specs.declared.amount.Amount.{Amount}
 use Rattle.lengths.specs.declared.dimen.Measure.{Measure}
-use Rattle.lengths.specs.declared.dimen.Dimen.{Dimen}
 use Rattle.lengths.specs.Amounts.{amountOf}
 use Rattle.lengths.specs.Dimens.{largest, swallowed, measureOf, sized, withMeasure, withUnit, dimenOf}
 

@@ -1,12 +1,12 @@
 -- What is read lies within the text, and its numbers within their ranges: laws of the definitions. Assumes nothing.
 use mathlib.Core.Path.{_≡_, refl, sym, ap, subst, _∙_}
 use mathlib.Core.Logic.{⊎-elim}
-use mathlib.Core.Bool.{Bool, true, false, cond}
+use mathlib.Core.Bool.{Bool, true, false}
 use mathlib.Core.List.{List, [], _∷_, _++_}
 use Prim.Native.Nat.{ℕ, _+_, _-_, _≤_, _<_}
 use native.Mathlib.Omega.{arith}
 use lib.Chars.{codes}
-use lib.IntN.{ℤ, pos, negsuc, negℤ}
+use lib.IntN.{ℤ, pos, negsuc}
 use lib.Signed.{_≤ℤ_}
 use lib.ListN.{length, drop, length-append, length-drop}
 use Rattle.std.specs.declared.option.Option.{Option}
@@ -26,9 +26,9 @@ use Rattle.lengths.specs.declared.glue.Stretch.{Stretch}
 use Rattle.lengths.specs.Orders.{unitText}
 use Rattle.lengths.specs.Dimens.{largest, swallowed, beginsWith, dimenOf}
 use Rattle.lengths.specs.Lengths.{missingAt, lengthAt}
-use Rattle.lengths.specs.Gaps.{Parts, parts, InRange}
+use Rattle.lengths.specs.Gaps.{parts, InRange}
 use Rattle.lengths.specs.Glues.{GlueParts, stretchPlaced, stretchAt, stretched, behindLength, glueAt}
-use Rattle.lengths.specs.Spelling.{Measures, Lengths, sign, signed}
+use Rattle.lengths.specs.Spelling.{SpellsMeasure, SpellsLength, sign, signed}
 use Rattle.lengths.proofs.Sound.{dimen-spelled}
 use Rattle.lengths.proofs.LengthLaws.{ok-is, ok-err, reads-length}
 use Rattle.lengths.proofs.Glueing.{spaces-on}
@@ -47,7 +47,7 @@ unit-long Fil = omega arith
 unit-long Fill = omega arith
 unit-long Filll = omega arith
 
-measures-inside : (s : List ℕ) (size : ℕ) (o : Order) (n : ℕ) → Measures s size o n → (1 ≤ n) × (n ≤ length s)
+measures-inside : (s : List ℕ) (size : ℕ) (o : Order) (n : ℕ) → SpellsMeasure s size o n → (1 ≤ n) × (n ≤ length s)
 measures-inside s size o n h =
     let long = unit-long o in
     let space = swallowed-inside (h .rest) in
@@ -60,7 +60,7 @@ signed-within : (minus : Bool) (size : ℕ) → size ≤ largest → (negsuc 167
 signed-within true size h = (omega (arith, ints), omega (arith, ints))
 signed-within false size h = (omega (arith, ints), omega (arith, ints))
 
-sign-inside : (s : List ℕ) (minus : Bool) (size n : ℕ) → Lengths s minus size n → (1 ≤ n) × (n ≤ length s)
+sign-inside : (s : List ℕ) (minus : Bool) (size n : ℕ) → SpellsLength s minus size n → (1 ≤ n) × (n ≤ length s)
 sign-inside s minus size n h =
     let body = measures-inside (h .tail) size Points (h .used) (h .amount) in
     let all = ap length (h .spelled) in

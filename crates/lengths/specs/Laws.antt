@@ -1,5 +1,5 @@
 -- What is answered of a length or of glue at a place, by what is spelled there. Assumes nothing.
-use mathlib.Core.Bool.{Bool, true, false}
+use mathlib.Core.Bool.{Bool}
 use mathlib.Core.List.{List, _++_}
 use mathlib.Core.Logic.{_⊎_}
 use mathlib.Core.Path.{_≡_}
@@ -21,7 +21,7 @@ use Rattle.lengths.specs.Dimens.{largest}
 use Rattle.lengths.specs.Gaps.{parts}
 use Rattle.lengths.specs.Glues.{GlueParts}
 use Rattle.lengths.specs.Lengths.{lengthAt}
-use Rattle.lengths.specs.Spelling.{Measures, Lengths, signed}
+use Rattle.lengths.specs.Spelling.{SpellsMeasure, SpellsLength, signed}
 
 -- a digit or a minus
 abbrev pub Begins : ℕ → Type 0
@@ -43,11 +43,11 @@ pub record Missed (text : List ℕ) (place : ℕ) (f : Fault) : Type 0 where
 -- the answer to a length at a place
 pub record ReadsLength (text : List ℕ) (place : ℕ) (r : Result Length Fault) : Type 0 where
   -- a length that is spelled there is the answer if its size is within the limit, ..
-  pub good : (minus : Bool) (size n : ℕ) → Lengths (drop place text) minus size n → size ≤ largest → r ≡ Ok (record { sp = signed minus size; end = place + n })
+  pub good : (minus : Bool) (size n : ℕ) → SpellsLength (drop place text) minus size n → size ≤ largest → r ≡ Ok (record { sp = signed minus size; end = place + n })
   -- .. and is refused at its first byte if not
-  pub large : (minus : Bool) (size n : ℕ) → Lengths (drop place text) minus size n → largest < size → r ≡ Err (faultAt BadLength place)
+  pub large : (minus : Bool) (size n : ℕ) → SpellsLength (drop place text) minus size n → largest < size → r ≡ Err (faultAt BadLength place)
   -- nothing else is answered
-  pub only : (l : Length) → r ≡ Ok l → (minus : Bool) × (size : ℕ) × (n : ℕ) × Lengths (drop place text) minus size n × (size ≤ largest) × (l ≡ record { sp = signed minus size; end = place + n })
+  pub only : (l : Length) → r ≡ Ok l → (minus : Bool) × (size : ℕ) × (n : ℕ) × SpellsLength (drop place text) minus size n × (size ≤ largest) × (l ≡ record { sp = signed minus size; end = place + n })
   pub refused : (f : Fault) → r ≡ Err f → Missed text place f
 
 -- behind a length stands `plus`, and behind that and all spaces there the place at
@@ -63,8 +63,8 @@ pub record ReadsGlue (text : List ℕ) (place : ℕ) (r : Result GlueParts Fault
   -- a length with no `plus` behind it does not stretch
   pub plain : (l : Length) → lengthAt text place ≡ Ok l → ((tail : List ℕ) → drop (l .end) text ≡ codes "plus" ++ tail → ⊥) → r ≡ Ok (record { gap = parts (l .sp) (pos 0) Points; end = l .end })
   -- behind `plus` and its spaces, a stretch within the limit is taken, ..
-  pub stretched : (l : Length) (at : ℕ) → lengthAt text place ≡ Ok l → Plus text l at → (size : ℕ) (o : Order) (n : ℕ) → Measures (drop at text) size o n → size ≤ largest → r ≡ Ok (record { gap = parts (l .sp) (pos size) o; end = at + n })
+  pub stretched : (l : Length) (at : ℕ) → lengthAt text place ≡ Ok l → Plus text l at → (size : ℕ) (o : Order) (n : ℕ) → SpellsMeasure (drop at text) size o n → size ≤ largest → r ≡ Ok (record { gap = parts (l .sp) (pos size) o; end = at + n })
   -- .. one above it is refused at its first byte, ..
-  pub large : (l : Length) (at : ℕ) → lengthAt text place ≡ Ok l → Plus text l at → (size : ℕ) (o : Order) (n : ℕ) → Measures (drop at text) size o n → largest < size → r ≡ Err (faultAt BadLength at)
+  pub large : (l : Length) (at : ℕ) → lengthAt text place ≡ Ok l → Plus text l at → (size : ℕ) (o : Order) (n : ℕ) → SpellsMeasure (drop at text) size o n → largest < size → r ≡ Err (faultAt BadLength at)
   -- .. and where none stands, that is refused as a missing length is
-  pub missing : (l : Length) (at : ℕ) → lengthAt text place ≡ Ok l → Plus text l at → ((size : ℕ) (o : Order) (n : ℕ) → Measures (drop at text) size o n → ⊥) → (f : Fault) × (r ≡ Err f) × Missed text at f
+  pub missing : (l : Length) (at : ℕ) → lengthAt text place ≡ Ok l → Plus text l at → ((size : ℕ) (o : Order) (n : ℕ) → SpellsMeasure (drop at text) size o n → ⊥) → (f : Fault) × (r ≡ Err f) × Missed text at f

@@ -1,5 +1,5 @@
 -- A length as it is read from the first byte on. Assumes nothing.
-use mathlib.Core.Bool.{Bool, true, false, cond}
+use mathlib.Core.Bool.{cond}
 use mathlib.Core.List.{List, [], _∷_}
 use Prim.Native.Nat.{ℕ, _+_}
 use lib.Dec.{eqb, leb}
@@ -10,7 +10,6 @@ use Rattle.std.specs.declared.option.Option.the-variants.{Some, None}
 use Rattle.std.specs.declared.result.Result.{Result}
 use Rattle.std.specs.declared.result.Result.the-variants.{Ok, Err}
 use Rattle.faults.specs.declared.Fault.{Fault}
-use Rattle.faults.specs.declared.Cause.{Cause}
 use Rattle.faults.specs.declared.Cause.the-variants.{BadLength}
 use Rattle.faults.specs.Faults.{faultAt, numberOf}
 use Rattle.reader.specs.declared.tokens.Lexeme.{Lexeme}

@@ -18,7 +18,7 @@ pointed (d ∷ ds) = 46 ∷ d ∷ ds
 
 -- the bytes are an amount: 1 to 8 digits, and perhaps a point with 1 to 17 digits. In 65,536ths its size is
 -- the whole digits' number times 65,536, and the number nearest to the fraction, at a half the one above
-pub record Amounts (bytes : List ℕ) (size : ℕ) : Type 0 where
+pub record SpellsAmount (bytes : List ℕ) (size : ℕ) : Type 0 where
   pub whole : List ℕ
   pub fraction : List ℕ
   pub part : ℕ
@@ -36,11 +36,11 @@ abbrev pub Longest : Order → List ℕ → Type 0
 Longest o rest = (p : Order) (tail : List ℕ) → unitText o ++ rest ≡ unitText p ++ tail → length (unitText p) ≤ length (unitText o)
 
 -- s begins with an amount of a size and the unit of an order; with the one space byte behind them they are n bytes
-pub record Measures (s : List ℕ) (size : ℕ) (o : Order) (n : ℕ) : Type 0 where
+pub record SpellsMeasure (s : List ℕ) (size : ℕ) (o : Order) (n : ℕ) : Type 0 where
   pub bytes : List ℕ
   pub rest : List ℕ
   pub spelled : s ≡ bytes ++ (unitText o ++ rest)
-  pub amount : Amounts bytes size
+  pub amount : SpellsAmount bytes size
   pub longest : Longest o rest
   pub len : n ≡ length bytes + length (unitText o) + swallowed rest
 
@@ -55,9 +55,9 @@ signed true size = negℤ (pos size)
 signed false size = pos size
 
 -- s begins with a length: a sign, and an amount in points
-pub record Lengths (s : List ℕ) (minus : Bool) (size n : ℕ) : Type 0 where
+pub record SpellsLength (s : List ℕ) (minus : Bool) (size n : ℕ) : Type 0 where
   pub tail : List ℕ
   pub spelled : s ≡ sign minus ++ tail
   pub used : ℕ
-  pub amount : Measures tail size Points used
+  pub amount : SpellsMeasure tail size Points used
   pub len : n ≡ length (sign minus) + used

@@ -1,7 +1,7 @@
 //! An amount with its unit, and the one space byte behind it.
 ghost use mathlib.Core.Path.{_≡_};
 ghost use mathlib.Core.Bool.{true};
-ghost use Prim.Native.Nat.{_+_, _≤_};
+ghost use Prim.Native.Nat.{_≤_};
 ghost use lib.ListN.{length};
 ghost use Rattle.std.specs.Slices.{found};
 ghost use Rattle.lengths.specs.Dimens.{beginsWith, measureOf, swallowed, dimenOf};

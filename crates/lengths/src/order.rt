@@ -25,7 +25,7 @@ impl Order {
     }
 
     // The order of a number, or nothing outside 0 to 3.
-    pub fn from_number(number: i64) -> Option<Order>
+    pub(crate) fn from_number(number: i64) -> Option<Order>
         ensures answer { λ r. ⌜ r ≡ orderFrom number ⌝ }
         ensures law { λ r. ⌜ OrderOf number r ⌝ }
     {

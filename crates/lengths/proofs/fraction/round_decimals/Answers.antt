@@ -1,7 +1,7 @@
-use mathlib.Core.Path.{_≡_, sym, ap, subst}
+use mathlib.Core.Path.{sym, ap, subst}
 use Prim.Native.Nat.{ℕ, _+_, _/_}
 use native.Mathlib.Omega.{arith}
-use Rattle.lengths.specs.Fractions.{scaled, rounded, Nearest}
+use Rattle.lengths.specs.Fractions.{Nearest}
 use Rattle.lengths.proofs.Rounding.{nearest}
 use Rattle.lengths.proofs.fraction.round_decimals.Needs as need
 

@@ -1,23 +1,18 @@
 use mathlib.Core.Path.{_≡_, sym, ap, _∙_}
-use mathlib.Core.Bool.{true, false}
-use mathlib.Core.List.{List}
-use Prim.Native.Nat.{ℕ, _+_}
 use lib.Chars.{codes}
 use lib.IntN.{ℤ, pos}
-use lib.ListN.{drop}
 use mir.Syntax.{w64}
 use mir.Val.{toZ, ofZ}
 use native.Mathlib.Omega.{arith}
-use borrow.Author.Needs.{needs}
-use Rattle.std.specs.declared.result.Result.the-variants.{Ok, Err}
 use Rattle.std.proofs.shelf.Lists.{take-rest}
 use Rattle.std.proofs.shelf.Results.{err-from-errBy}
 use Rattle.std.proofs.shelf.Signed.{ints}
 use Rattle.lengths.specs.declared.order.Order.the-variants.{Points}
 use Rattle.lengths.specs.Dimens.{beginsWith}
 use Rattle.lengths.specs.Gaps.{parts}
-use Rattle.lengths.proofs.Glueing.{natural-fits, stretch-fits, spaces-on, glue-refused, glue-plain, glue-short, glue-stretched}
+use Rattle.lengths.proofs.Glueing.{natural-fits, stretch-fits, glue-refused, glue-plain, glue-short, glue-stretched}
 use Rattle.lengths.proofs.GlueLaws.{reads-glue}
+use Rattle.lengths.proofs.Within.{glue-within}
 use Rattle.lengths.proofs.glue.glue_at.Needs as need
 
 pub of-gap-requires : need.of-gap-requires
@@ -59,12 +54,8 @@ returns-in-Continue-stretch c =
     let e = glue-stretched text (c .args .place) l (c .in-Continue-length .ensures tt .answer) (c .spaces-end .result) (c .spaces-end .ensures .answer)
     (c .if-begins .ensures tt .is ∙ ap (beginsWith (codes "plus")) (take-rest text (l .end)))
     s _ same (c .in-Continue-stretch .ensures tt .is) in
-    let on = spaces-on text (l .end + 4) in
-    record {
-      answer = e;
-      within = (omega (arith, told .2, on, c .spaces-end .ensures .answer, more .2), more .3);
-      law = reads-glue text (c .args .place) _ e;
-    }
+    let inside = glue-within text (c .args .place) _ (sym e) in
+    record { answer = e; within = (inside .1, inside .2); law = reads-glue text (c .args .place) _ e }
 
 pub returns-else-begins : need.returns-else-begins
 returns-else-begins c =
@@ -75,4 +66,5 @@ returns-else-begins c =
     let e = glue-plain text (c .args .place) l (c .in-Continue-length .ensures tt .answer)
     _ (c .of-gap-else-begins .ensures .answer ∙ ap (λ (z : ℤ). parts z (pos 0) Points) natural)
     (c .if-begins .ensures tt .is ∙ ap (beginsWith (codes "plus")) (take-rest text (l .end))) in
-    record { answer = e; within = (told .2, told .3); law = reads-glue text (c .args .place) _ e }
+    let inside = glue-within text (c .args .place) _ (sym e) in
+    record { answer = e; within = (inside .1, inside .2); law = reads-glue text (c .args .place) _ e }

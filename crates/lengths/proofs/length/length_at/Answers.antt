@@ -1,15 +1,13 @@
 use mathlib.Core.Path.{_≡_, sym, ap, _∙_}
-use Prim.Native.Nat.{_+_}
-use lib.IntN.{ℤ}
 use mir.Syntax.{w64}
 use mir.Val.{toZ, ofZ, SFits}
-use native.Mathlib.Omega.{arith}
 use borrow.Author.Needs.{needs}
-use Rattle.std.specs.declared.result.Result.the-variants.{Ok, Err}
-use Rattle.std.proofs.shelf.Signed.{ints, toZ-ofZ}
+use Rattle.std.specs.declared.result.Result.the-variants.{Err}
+use Rattle.std.proofs.shelf.Signed.{toZ-ofZ}
 use Rattle.lengths.specs.Lengths.{missingAt, lengthAt}
 use Rattle.lengths.proofs.LengthLaws.{reads-length}
-use Rattle.lengths.proofs.Places.{length-rest, length-at-is, length-none, length-past}
+use Rattle.lengths.proofs.Places.{length-at-is, length-none, length-past}
+use Rattle.lengths.proofs.Within.{length-within}
 use Rattle.lengths.proofs.length.length_at.Needs as need
 use Rattle.lengths.proofs.length.length_at.Needs.{then-place-text·in-rest, else-place-text}
 
@@ -23,7 +21,7 @@ returns-in-Some c =
     let e = length-at-is text place l (toZ w64 (ofZ w64 (l .sp))) (toZ-ofZ w64 (l .sp) fits) (told .is) in
     record {
       answer = e;
-      within = (omega (arith, ints, told .inside .0), omega (arith, ints, told .inside .1), omega (arith, told .inside .2), omega (arith, told .inside .3, length-rest text place));
+      within = length-within text place _ (sym e);
       law = reads-length text place _ e;
     }
 
