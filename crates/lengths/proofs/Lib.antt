@@ -1,0 +1,15 @@
+pub mod Rounding
+pub mod Runs
+pub mod Spells
+pub mod Fronts
+pub mod Units
+pub mod Signs
+pub mod Missing
+pub mod Places
+pub mod Glueing
+pub mod Complete
+pub mod Sound
+pub mod Refusals
+pub mod LengthLaws
+pub mod GlueLaws
+pub mod Within

@@ -1,0 +1,10 @@
+pub mod Fractions
+pub mod Amounts
+pub mod Orders
+pub mod Dimens
+pub mod Gaps
+pub mod Lengths
+pub mod Glues
+pub mod Spelling
+pub mod Laws
+pub mod Samples
