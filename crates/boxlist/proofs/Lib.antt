@@ -1,0 +1,5 @@
+pub mod Overs
+pub mod Joins
+pub mod Steps
+pub mod Goods
+pub mod Bytes

@@ -1,0 +1,4 @@
+pub mod Groups
+pub mod Over
+pub mod Format
+pub mod Writing

@@ -1,0 +1,71 @@
+//! The list of boxes that a raster program draws, and its bytes.
+ghost use mathlib.Core.Path.{_≡_};
+ghost use Prim.Native.Nat.{_+_, _*_, _^_, _≤_, _<_};
+ghost use lib.ListN.{length};
+ghost use Rattle.boxlist.specs.Writing.{writeAnswer, writtenOver};
+
+mod boxes;
+mod numbers;
+
+use faults::Cause;
+use faults::Fault;
+
+// What a box draws.
+#[derive(Clone, Copy, PartialEq, Eq, Debug)]
+pub enum Kind {
+    // a word's bytes
+    Word,
+    // a rule across the table
+    Rule,
+    // none of these: always refused, whatever the number
+    Unlisted(i64),
+}
+
+// The text that holds a word's bytes.
+#[derive(Clone, Copy, PartialEq, Eq, Debug)]
+pub enum Store {
+    // the text of the preamble
+    Preamble,
+    // the text of the lines
+    Lines,
+    // none of these: always refused, whatever the number
+    Unlisted(i64),
+}
+
+// A box, with its left edge `x` and its baseline `y`; a rule has no store, place and length.
+#[derive(Clone, Copy, PartialEq, Eq, Debug)]
+pub struct BoxRecord {
+    pub kind: Kind,
+    pub x: i64,
+    pub y: i64,
+    pub width: i64,
+    pub height: i64,
+    pub depth: i64,
+    pub store: Store,
+    pub place: i64,
+    pub len: i64,
+}
+
+// What is drawn: the width and the total height of the table, and its boxes.
+#[derive(Clone, Copy)]
+pub struct BoxList<'a> {
+    pub width: i64,
+    pub height: i64,
+    pub boxes: &'a [BoxRecord],
+}
+
+// The bytes of a list from the front on, and how many they are. A refusal writes nothing.
+pub fn write(list: BoxList<'_>, out: &mut [u8]) -> Result<usize, Fault>
+    ensures answer { λ r. ⌜ r ≡ writeAnswer (list .entry .width) (list .entry .height) (now (list .entry .boxes)) (length (now (out .entry))) ⌝ }
+    ensures bytes { λ _. ⌜ now (out .exit) ≡ writtenOver (list .entry .width) (list .entry .height) (now (list .entry .boxes)) (now (out .entry)) ⌝ }
+{
+    if !boxes::is_writable(list) {
+        return Err(Cause::BadBox.at(0));
+    }
+    let need = boxes::list_len(list);
+    if out.len() < need {
+        return Err(Cause::TooLittleRoom.at(0));
+    }
+    boxes::put_list(list, out);
+    Ok(need)
+}
