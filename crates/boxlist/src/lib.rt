@@ -3,6 +3,7 @@ ghost use mathlib.Core.Path.{_≡_};
 ghost use Prim.Native.Nat.{_+_, _*_, _^_, _≤_, _<_};
 ghost use lib.ListN.{length};
 ghost use Rattle.boxlist.specs.Writing.{writeAnswer, writtenOver};
+ghost use Rattle.boxlist.specs.Parts.{held, fetchAnswer};
 
 mod boxes;
 mod numbers;
@@ -68,4 +69,24 @@ pub fn write(list: BoxList<'_>, out: &mut [u8]) -> Result<usize, Fault>
     }
     boxes::put_list(list, out);
     Ok(need)
+}
+
+// The bytes that a word's box names, a part of one of the two texts.
+pub fn fetch<'a>(rec: &BoxRecord, preamble: &'a [u8], lines: &'a [u8]) -> Result<&'a [u8], Fault>
+    ensures { λ r. ⌜ held r ≡ fetchAnswer (now (rec .entry)) (now (preamble .entry)) (now (lines .entry)) ⌝ }
+{
+    let text = match (rec.kind, rec.store) {
+        (Kind::Word, Store::Preamble) => preamble,
+        (Kind::Word, Store::Lines) => lines,
+        _ => return Err(Cause::BadBox.at(0)),
+    };
+    if rec.place < 0 || rec.len < 0 {
+        return Err(Cause::BadBox.at(0));
+    }
+    let place = rec.place as usize;
+    let len = rec.len as usize;
+    if place > text.len() || len > text.len() - place {
+        return Err(Cause::BadBox.at(0));
+    }
+    Ok(&text[place..place + len])
 }
