@@ -1,4 +1,5 @@
 pub mod Groups
+pub mod Spellings
 pub mod Over
 pub mod Format
 pub mod Writing

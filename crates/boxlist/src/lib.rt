@@ -2,6 +2,7 @@
 ghost use mathlib.Core.Path.{_≡_};
 ghost use Prim.Native.Nat.{_+_, _*_, _^_, _≤_, _<_};
 ghost use lib.ListN.{length};
+ghost use Rattle.boxlist.specs.Spellings.{Groups-shortest, Others-longer, Shortest-ends-well, Spelling-shows-end, Groups-apart, Six-groups, Folds-up, Folds-below, Folds-apart, Folds-onto};
 ghost use Rattle.boxlist.specs.Writing.{writeAnswer, writtenOver};
 ghost use Rattle.boxlist.specs.Parts.{held, fetchAnswer};
 
@@ -89,4 +90,24 @@ pub fn fetch<'a>(rec: &BoxRecord, preamble: &'a [u8], lines: &'a [u8]) -> Result
         return Err(Cause::BadBox.at(0));
     }
     Ok(&text[place..place + len])
+}
+
+// Every number has one shortest spelling, the one that is written, and every spelling shows where it ends.
+pub fn numbers_have_one_spelling()
+    ensures shortest { λ _. ⌜ Groups-shortest ⌝ }
+    ensures others { λ _. ⌜ Others-longer ⌝ }
+    ensures last { λ _. ⌜ Shortest-ends-well ⌝ }
+    ensures ends { λ _. ⌜ Spelling-shows-end ⌝ }
+    ensures apart { λ _. ⌜ Groups-apart ⌝ }
+    ensures six { λ _. ⌜ Six-groups ⌝ }
+{
+}
+
+// Signed numbers and unsigned ones are matched one to one.
+pub fn signs_fold_one_to_one()
+    ensures up { λ _. ⌜ Folds-up ⌝ }
+    ensures below { λ _. ⌜ Folds-below ⌝ }
+    ensures apart { λ _. ⌜ Folds-apart ⌝ }
+    ensures onto { λ _. ⌜ Folds-onto ⌝ }
+{
 }
