@@ -1,16 +1,11 @@
 -- Which boxes are written, by their kind. Assumes nothing.
 use mathlib.Core.Path.{_≡_, ap}
-use mathlib.Core.Bool.{true, false, _&&_}
-use mathlib.Core.List.{List}
-use Prim.Native.Nat.{_^_, _≤_}
-use lib.Dec.{leb}
-use lib.ListN.{length}
-use Rattle.std.proofs.shelf.Tests.{and-parts, leb-true}
+use mathlib.Core.Bool.{false, _&&_}
 use lib.IntN.{ℤ, pos}
 use Rattle.boxlist.specs.declared.Kind.the-variants as kinds
 use Rattle.boxlist.specs.declared.Store.the-variants as stores
 use Rattle.boxlist.specs.declared.BoxRecord.{BoxRecord}
-use Rattle.boxlist.specs.Writing.{counted, goodFrame, goodPart, goodKind, goodBox, goodBoxes, goodHead, writable}
+use Rattle.boxlist.specs.Writing.{goodFrame, goodPart, goodKind, goodBox}
 
 -- what stands past the end of a row of boxes
 abbrev pub blank : BoxRecord
@@ -27,11 +22,3 @@ good-rule r e = ap (λ k. goodKind k (goodFrame r) (goodPart r)) e
 pub good-unlisted : (r : BoxRecord) (n : ℤ) → r .kind ≡ kinds.Unlisted n → goodBox r ≡ false
 unfolding goodBox
 good-unlisted r n e = ap (λ k. goodKind k (goodFrame r) (goodPart r)) e
-
--- a list that is written has at most 2^40 boxes
-pub writable-count : (t h : ℤ) (boxes : List BoxRecord) → writable t h boxes ≡ true → length boxes ≤ 2 ^ 40
-unfolding writable
-writable-count t h boxes e =
-    let head = and-parts (goodHead t h (length boxes)) (goodBoxes boxes) e .0 in
-    let behind = and-parts (counted t) (counted h && leb (length boxes) (2 ^ 40)) head .1 in
-    leb-true (length boxes) (2 ^ 40) (and-parts (counted h) (leb (length boxes) (2 ^ 40)) behind .1)

@@ -1,5 +1,5 @@
 use mathlib.Core.Path.{sym}
-use Rattle.boxlist.proofs.Goods.{writable-count}
+use Rattle.boxlist.proofs.Decided.{writable-count}
 use Rattle.boxlist.proofs.write.Needs as need
 
 pub list-len-need-requires : need.list-len-need-requires
