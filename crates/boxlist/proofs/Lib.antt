@@ -8,4 +8,5 @@ pub mod Goods
 pub mod Telling
 pub mod Sizes
 pub mod Outcomes
+pub mod Fetching
 pub mod Bytes

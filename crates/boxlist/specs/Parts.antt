@@ -42,15 +42,38 @@ abbrev pub partIn : Option (List ℕ) → ℤ → ℤ → Option (List ℕ)
 partIn (Some text) a n = textPart text a n
 partIn None a n = None
 
+-- the bytes that a box names, where there are such
+abbrev pub namedPart : BoxRecord → List ℕ → List ℕ → Option (List ℕ)
+namedPart r p l = partIn (namedText (r .kind) (r .store) p l) (r .place) (r .len)
+
 abbrev pub orRefused : Option (List ℕ) → Result (List ℕ) Fault
 orRefused (Some bs) = Ok bs
 orRefused None = Err (faultAt BadBox 0)
 
 -- the bytes that a box names, or the refusal
 abbrev pub fetchAnswer : BoxRecord → List ℕ → List ℕ → Result (List ℕ) Fault
-fetchAnswer r p l = orRefused (partIn (namedText (r .kind) (r .store) p l) (r .place) (r .len))
+fetchAnswer r p l = orRefused (namedPart r p l)
 
 -- what a borrowed part holds
 abbrev pub held : Result (RefT (List ℕ)) Fault → Result (List ℕ) Fault
 held (Ok part) = Ok (now part)
 held (Err f) = Err f
+
+-- the bytes of a text from a place on, so many as a length says
+pub record PartOf (text : List ℕ) (a n : ℤ) (bs : List ℕ) : Type 0 where
+  pub before : List ℕ
+  pub behind : List ℕ
+  pub whole : text ≡ before ++ (bs ++ behind)
+  pub begins : pos (length before) ≡ a
+  pub long : pos (length bs) ≡ n
+
+-- a box names bytes: it is a word's, and they are its part of the text of its store
+abbrev pub Names : BoxRecord → List ℕ → List ℕ → List ℕ → Type 0
+Names r p l bs =
+    (r .kind ≡ kinds.Word)
+    × (((r .store ≡ stores.Preamble) × PartOf p (r .place) (r .len) bs) ⊎ ((r .store ≡ stores.Lines) × PartOf l (r .place) (r .len) bs))
+
+-- the bytes handed out are those that the box names, and a refusal comes where it names none
+abbrev pub Fetched : BoxRecord → List ℕ → List ℕ → Result (List ℕ) Fault → Type 0
+Fetched r p l (Ok bs) = Names r p l bs
+Fetched r p l (Err f) = (f ≡ faultAt BadBox 0) × ((bs : List ℕ) → Names r p l bs → ⊥)

@@ -4,7 +4,9 @@ ghost use Prim.Native.Nat.{_+_, _*_, _^_, _≤_, _<_};
 ghost use lib.ListN.{length};
 ghost use Rattle.boxlist.specs.Spellings.{Groups-shortest, Others-longer, Shortest-ends-well, Spelling-shows-end, Groups-apart, Six-groups, Folds-up, Folds-below, Folds-apart, Folds-onto};
 ghost use Rattle.boxlist.specs.Writing.{writeAnswer, writtenOver};
-ghost use Rattle.boxlist.specs.Parts.{held, fetchAnswer};
+ghost use Rattle.boxlist.specs.Lists.{Wrote, Writable-decided, Bytes-tell-list, List-shows-end, Unwritten-idle, Six-each};
+ghost use Rattle.boxlist.specs.Parts.{namedPart, fetchAnswer, held, Fetched};
+ghost use Rattle.std.specs.Options.{mapped};
 
 mod boxes;
 mod numbers;
@@ -60,6 +62,7 @@ pub struct BoxList<'a> {
 pub fn write(list: BoxList<'_>, out: &mut [u8]) -> Result<usize, Fault>
     ensures answer { λ r. ⌜ r ≡ writeAnswer (list .entry .width) (list .entry .height) (now (list .entry .boxes)) (length (now (out .entry))) ⌝ }
     ensures bytes { λ _. ⌜ now (out .exit) ≡ writtenOver (list .entry .width) (list .entry .height) (now (list .entry .boxes)) (now (out .entry)) ⌝ }
+    ensures law { λ r. ⌜ Wrote (list .entry .width) (list .entry .height) (now (list .entry .boxes)) (now (out .entry)) (now (out .exit)) r ⌝ }
 {
     if !boxes::is_writable(list) {
         return Err(Cause::BadBox.at(0));
@@ -72,24 +75,32 @@ pub fn write(list: BoxList<'_>, out: &mut [u8]) -> Result<usize, Fault>
     Ok(need)
 }
 
-// The bytes that a word's box names, a part of one of the two texts.
-pub fn fetch<'a>(rec: &BoxRecord, preamble: &'a [u8], lines: &'a [u8]) -> Result<&'a [u8], Fault>
-    ensures { λ r. ⌜ held r ≡ fetchAnswer (now (rec .entry)) (now (preamble .entry)) (now (lines .entry)) ⌝ }
+// The part of one of the two texts that a word's box names.
+fn named_part<'a>(rec: &BoxRecord, preamble: &'a [u8], lines: &'a [u8]) -> Option<&'a [u8]>
+    ensures { λ r. ⌜ mapped now r ≡ namedPart (now (rec .entry)) (now (preamble .entry)) (now (lines .entry)) ⌝ }
 {
     let text = match (rec.kind, rec.store) {
         (Kind::Word, Store::Preamble) => preamble,
         (Kind::Word, Store::Lines) => lines,
-        _ => return Err(Cause::BadBox.at(0)),
+        _ => return None,
     };
     if rec.place < 0 || rec.len < 0 {
-        return Err(Cause::BadBox.at(0));
+        return None;
     }
     let place = rec.place as usize;
     let len = rec.len as usize;
     if place > text.len() || len > text.len() - place {
-        return Err(Cause::BadBox.at(0));
+        return None;
     }
-    Ok(&text[place..place + len])
+    Some(&text[place..place + len])
+}
+
+// The bytes that a word's box names, a part of one of the two texts.
+pub fn fetch<'a>(rec: &BoxRecord, preamble: &'a [u8], lines: &'a [u8]) -> Result<&'a [u8], Fault>
+    ensures answer { λ r. ⌜ held r ≡ fetchAnswer (now (rec .entry)) (now (preamble .entry)) (now (lines .entry)) ⌝ }
+    ensures law { λ r. ⌜ Fetched (now (rec .entry)) (now (preamble .entry)) (now (lines .entry)) (held r) ⌝ }
+{
+    named_part(rec, preamble, lines).ok_or(Cause::BadBox.at(0))
 }
 
 // Every number has one shortest spelling, the one that is written, and every spelling shows where it ends.
@@ -109,5 +120,15 @@ pub fn signs_fold_one_to_one()
     ensures below { λ _. ⌜ Folds-below ⌝ }
     ensures apart { λ _. ⌜ Folds-apart ⌝ }
     ensures onto { λ _. ⌜ Folds-onto ⌝ }
+{
+}
+
+// Equal bytes mean equal lists, but for what is not written of a rule.
+pub fn bytes_tell_the_list()
+    ensures may { λ _. ⌜ Writable-decided ⌝ }
+    ensures tell { λ _. ⌜ Bytes-tell-list ⌝ }
+    ensures ends { λ _. ⌜ List-shows-end ⌝ }
+    ensures idle { λ _. ⌜ Unwritten-idle ⌝ }
+    ensures six { λ _. ⌜ Six-each ⌝ }
 {
 }
