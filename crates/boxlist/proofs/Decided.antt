@@ -1,13 +1,12 @@
 -- The test of a list is right: it passes exactly the lists that may be written. Assumes nothing.
-use mathlib.Core.Path.{_≡_, refl, sym, _∙_}
+use mathlib.Core.Path.{_≡_, refl}
 use mathlib.Core.Logic.{_⊎_, inl, inr, ⊎-elim}
-use mathlib.Core.Bool.{Bool, true, false, _&&_}
-use mathlib.Core.List.{List, [], _∷_}
+use mathlib.Core.Bool.{true, false, _&&_}
+use mathlib.Core.List.{List}
 use Prim.Native.Nat.{ℕ, _^_, _≤_}
 use native.Mathlib.Omega.{arith}
 use lib.Dec.{leb}
 use lib.IntN.{ℤ, pos, negsuc}
-use lib.Signed.{_≤ℤ_}
 use lib.ListN.{length}
 use Rattle.std.specs.Orderings.{Decides}
 use Rattle.std.specs.shelf.Lists.{All}
@@ -39,13 +38,14 @@ ListedStore s = (s ≡ stores.Preamble) ⊎ (s ≡ stores.Lines)
 decides-store : (s : Store) → Decides (listedStore s) (ListedStore s)
 decides-store stores.Preamble = (λ _. inl refl, λ _. refl)
 decides-store stores.Lines = (λ _. inr refl, λ _. refl)
-decides-store (stores.Unlisted n) =
-    (λ e. absurd (false≢true e),
-    λ p.
-    ⊎-elim
-    (λ e. let z : _≡_ {A = ℕ} 0 1 = cc in absurd (omega arith))
-    (λ e. let z : _≡_ {A = ℕ} 0 1 = cc in absurd (omega arith))
-    p)
+decides-store (stores.Unlisted n) = (
+  λ e. absurd (false≢true e),
+  λ p.
+      ⊎-elim
+      (λ e. let z : _≡_ {A = ℕ} 0 1 = cc in absurd (omega arith))
+      (λ e. let z : _≡_ {A = ℕ} 0 1 = cc in absurd (omega arith))
+      p,
+)
 
 decides-part : (r : BoxRecord) → Decides (goodPart r) (WritablePart r)
 decides-part r =
@@ -79,13 +79,14 @@ decides-kind kinds.Rule r k =
     (λ p. record { listed = inr k; across = p .0; down = p .1 .0; wide = p .1 .1 .0; above = p .1 .1 .1 .0; below = p .1 .1 .1 .1; part = λ e. let z : _≡_ {A = ℕ} 0 1 = cc in absurd (omega arith) })
     (framed r)
     (decides-frame r)
-decides-kind (kinds.Unlisted n) r k =
-    (λ e. absurd (false≢true e),
-    λ w.
-    ⊎-elim
-    (λ e. let z : _≡_ {A = ℕ} 0 1 = cc in absurd (omega arith))
-    (λ e. let z : _≡_ {A = ℕ} 0 1 = cc in absurd (omega arith))
-    (w .listed))
+decides-kind (kinds.Unlisted n) r k = (
+  λ e. absurd (false≢true e),
+  λ w.
+      ⊎-elim
+      (λ e. let z : _≡_ {A = ℕ} 0 1 = cc in absurd (omega arith))
+      (λ e. let z : _≡_ {A = ℕ} 0 1 = cc in absurd (omega arith))
+      (w .listed),
+)
 
 pub decides-box : (r : BoxRecord) → Decides (goodBox r) (WritableBox r)
 unfolding goodBox

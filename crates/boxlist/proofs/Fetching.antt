@@ -2,8 +2,8 @@
 use mathlib.Core.Path.{_≡_, refl, sym, ap, subst, _∙_}
 use mathlib.Core.Logic.{_⊎_, inl, inr, ⊎-elim}
 use mathlib.Core.Bool.{Bool, true, false, cond}
-use mathlib.Core.List.{List, [], _∷_, _++_}
-use Prim.Native.Nat.{ℕ, _+_, _≤_, _<_}
+use mathlib.Core.List.{List, _++_}
+use Prim.Native.Nat.{ℕ, _+_}
 use native.Mathlib.Omega.{arith}
 use denote.Ref.{RefT, now}
 use lib.Dec.{leb}
@@ -14,7 +14,7 @@ use Rattle.std.specs.declared.option.Option.{Option}
 use Rattle.std.specs.declared.option.Option.the-variants.{Some, None}
 use Rattle.std.specs.declared.result.Result.{Result}
 use Rattle.std.specs.declared.result.Result.the-variants.{Err}
-use Rattle.std.proofs.shelf.Lists.{take-append-drop, length-take-le, length-drop, length-append, drop-at, take-at}
+use Rattle.std.proofs.shelf.Lists.{take-append-drop, length-take-le, length-drop, length-append}
 use Rattle.std.proofs.shelf.Tests.{leb-true, leb-false}
 use Rattle.faults.specs.declared.Cause.the-variants.{BadBox}
 use Rattle.faults.specs.declared.Fault.{Fault}
@@ -24,7 +24,7 @@ use Rattle.boxlist.specs.declared.Kind.the-variants as kinds
 use Rattle.boxlist.specs.declared.Store.{Store}
 use Rattle.boxlist.specs.declared.Store.the-variants as stores
 use Rattle.boxlist.specs.declared.BoxRecord.{BoxRecord}
-use Rattle.boxlist.specs.Parts.{storeText, namedText, textPart, partIn, namedPart, orRefused, fetchAnswer, held, PartOf, Names, Fetched}
+use Rattle.boxlist.specs.Parts.{namedText, textPart, partIn, namedPart, orRefused, fetchAnswer, held, PartOf, Fetched}
 
 -- a part of a text is there exactly where the test says so
 abbrev Cut : List ℕ → ℤ → ℤ → Option (List ℕ) → Type 0
@@ -39,7 +39,7 @@ cut-by text a n true e =
       behind = drop n (drop a text);
       whole = sym (take-append-drop a text) ∙ ap (λ (l : List ℕ). take a text ++ l) (sym (take-append-drop n (drop a text)));
       begins = ap pos (length-take-le a text (omega arith));
-      long = ap pos (length-take-le n (drop a text) (omega (arith, length-drop a text)))
+      long = ap pos (length-take-le n (drop a text) (omega (arith, length-drop a text)));
     }
 cut-by text a n false e =
     λ bs p.

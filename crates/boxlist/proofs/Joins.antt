@@ -8,7 +8,6 @@ use Rattle.std.specs.Joined.{joined}
 use Rattle.std.proofs.shelf.Lists.{append-assoc, take-more, joined-more, length-append}
 
 module _ {X Y : Type 0} (f : X → List Y) where
-
   pub joined-append : (xs ys : List X) → joined f (xs ++ ys) ≡ joined f xs ++ joined f ys
   joined-append [] ys = refl
   joined-append (x ∷ xs) ys = ap (λ l. f x ++ l) (joined-append xs ys) ∙ sym (append-assoc (f x) (joined f xs) (joined f ys))

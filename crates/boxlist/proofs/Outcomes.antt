@@ -2,13 +2,12 @@
 use mathlib.Core.Path.{_≡_, refl, sym, ap, subst, _∙_}
 use mathlib.Core.Logic.{inl, inr}
 use mathlib.Core.Bool.{Bool, true, false, cond}
-use mathlib.Core.List.{List, [], _∷_, _++_}
+use mathlib.Core.List.{List}
 use Prim.Native.Nat.{ℕ, _+_, _≤_, _<_}
 use native.Mathlib.Omega.{arith}
 use lib.Dec.{leb}
 use lib.IntN.{ℤ}
 use lib.ListN.{length, take, drop}
-use Rattle.std.specs.Orderings.{Decides}
 use Rattle.std.specs.declared.result.Result.{Result}
 use Rattle.std.specs.declared.result.Result.the-variants.{Ok, Err}
 use Rattle.std.proofs.shelf.Lists.{take-at, drop-at}
@@ -18,7 +17,6 @@ use Rattle.faults.specs.declared.Cause.the-variants.{BadBox, TooLittleRoom}
 use Rattle.faults.specs.declared.Fault.{Fault}
 use Rattle.faults.specs.Faults.{faultAt}
 use Rattle.boxlist.specs.declared.BoxRecord.{BoxRecord}
-use Rattle.boxlist.specs.Groups.{allGroups}
 use Rattle.boxlist.specs.Spellings.{SpellsRow}
 use Rattle.boxlist.specs.Over.{over}
 use Rattle.boxlist.specs.Format.{listNumbers, bytesOf}
@@ -39,13 +37,12 @@ bytes-only t h boxes bs p = row-only (listNumbers t h boxes) bs p ∙ sym (bytes
 
 accepted : (t h : ℤ) (boxes : List BoxRecord) (old : List ℕ) → Writable t h boxes → length (bytesOf t h boxes) ≤ length old → Written t h boxes old (over old 0 (bytesOf t h boxes)) (length (bytesOf t h boxes))
 accepted t h boxes old may fits =
-    let bs = bytesOf t h boxes in
     let P : List ℕ → Type 0 = λ l. SpellsRow l (listNumbers t h boxes) in
     record {
       may = may;
       fits = fits;
       spelled = subst P (sym (take-at (bytesOf t h boxes) (drop (0 + length (bytesOf t h boxes)) old) (length (bytesOf t h boxes)) refl)) (bytes-spelled t h boxes);
-      behind = drop-at (bytesOf t h boxes) (drop (0 + length (bytesOf t h boxes)) old) (length (bytesOf t h boxes)) refl ∙ ap (λ n. drop n old) (omega arith)
+      behind = drop-at (bytesOf t h boxes) (drop (0 + length (bytesOf t h boxes)) old) (length (bytesOf t h boxes)) refl ∙ ap (λ n. drop n old) (omega arith);
     }
 
 outcome : (t h : ℤ) (boxes : List BoxRecord) (old : List ℕ) (w f : Bool) → writable t h boxes ≡ w → leb (length (bytesOf t h boxes)) (length old) ≡ f → Wrote t h boxes old (cond w (cond f (over old 0 (bytesOf t h boxes)) old) old) (cond w (cond f (Ok (length (bytesOf t h boxes))) (Err (faultAt TooLittleRoom 0))) (Err (faultAt BadBox 0)))

@@ -1,14 +1,13 @@
 -- Rows written over a part of another, one place further and one behind the other. Assumes nothing.
-use mathlib.Core.Path.{_≡_, refl, sym, ap, _∙_}
+use mathlib.Core.Path.{_≡_, sym, ap, _∙_}
 use mathlib.Core.List.{List, [], _∷_, _++_}
 use Prim.Native.Nat.{ℕ, _+_, _≤_, _<_}
 use native.Mathlib.Omega.{arith}
 use lib.ListN.{length, take, drop, set}
-use Rattle.std.proofs.shelf.Lists.{append-assoc, append-nil, take-more-set, drop-set-lt, length-set, take-append-drop, length-append, length-take-le, length-drop, take-at, drop-at}
+use Rattle.std.proofs.shelf.Lists.{append-assoc, take-more-set, drop-set-lt, length-set, take-append-drop}
 use Rattle.boxlist.specs.Over.{over}
 
 module _ {X : Type 0} where
-
   -- the first of a row, and the others from the next place on
   pub over-more : (old : List X) (place : ℕ) (x : X) (xs : List X) → place < length old → over (set old place x) (place + 1) xs ≡ over old place (x ∷ xs)
   over-more old place x xs h =

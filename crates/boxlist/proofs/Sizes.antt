@@ -1,6 +1,6 @@
 -- The numbers of a list that may be written are below 2^42. Assumes nothing.
 use mathlib.Core.Path.{_≡_, refl}
-use mathlib.Core.List.{List, [], _∷_, _++_}
+use mathlib.Core.List.{List, [], _∷_}
 use Prim.Native.Nat.{ℕ, _^_, _<_}
 use native.Mathlib.Omega.{arith}
 use lib.IntN.{ℤ, pos, negsuc}
@@ -15,7 +15,7 @@ use Rattle.boxlist.specs.declared.Store.the-variants as stores
 use Rattle.boxlist.specs.declared.BoxRecord.{BoxRecord}
 use Rattle.boxlist.specs.Groups.{zigzag}
 use Rattle.boxlist.specs.Format.{kindNumber, storeNumber, natural, partNumbers, frameNumbers, onlyOfWords, boxNumbers, headNumbers, listNumbers}
-use Rattle.boxlist.specs.Lists.{Sized, Counted, WritablePart, WritableBox, Writable}
+use Rattle.boxlist.specs.Lists.{Sized, Counted, WritableBox, Writable}
 
 abbrev Small : ℕ → Type 0
 Small n = n < 2 ^ 42

@@ -32,7 +32,7 @@ spelt-more n large s =
     subst P (sym (groups-more n large))
     (record {
       marks = marked-more (n % 128 + 128) (groupsOf (n / 128)) (omega arith) (omega arith) (s .marks);
-      sum = omega (arith, s .sum)
+      sum = omega (arith, s .sum);
     })
 
 spelt-by : (k n : ℕ) → n ≤ k → Spelt n
@@ -45,7 +45,6 @@ groups-spell n = spelt-by n n (omega arith)
 -- a first group before the groups of a number above 0
 groups-before : (b n : ℕ) → 128 ≤ b → b < 256 → 0 < n → groupsOf (b % 128 + 128 * n) ≡ b ∷ groupsOf n
 groups-before b n low high some =
-    let m = b % 128 + 128 * n in
     let large : 128 ≤ b % 128 + 128 * n = omega arith in
     let first : (b % 128 + 128 * n) % 128 + 128 ≡ b = omega arith in
     let others : (b % 128 + 128 * n) / 128 ≡ n = omega arith in
@@ -61,7 +60,6 @@ against (b ∷ []) m =
     let sum : b % 128 + 128 * 0 ≡ b = omega arith in
     inl (sym (ap groupsOf sum ∙ groups-last b m))
 against (b ∷ (c ∷ bs)) m =
-    let n = groupSum (c ∷ bs) in
     ⊎-elim
     (λ none.
     let small : b % 128 + 128 * groupSum (c ∷ bs) < 128 = omega arith in
@@ -83,7 +81,7 @@ pub groups-shortest : (n : ℕ) → Shortest (groupsOf n) n
 groups-shortest n =
     record {
       spells = groups-spell n;
-      least = λ cs s. ⊎-elim (λ same. omega (arith, ap length same)) (λ longer. omega arith) (others-longer cs n s)
+      least = λ cs s. ⊎-elim (λ same. omega (arith, ap length same)) (λ longer. omega arith) (others-longer cs n s);
     }
 
 pub shortest-is : (bs : List ℕ) (n : ℕ) → Shortest bs n → bs ≡ groupsOf n

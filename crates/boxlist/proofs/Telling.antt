@@ -1,28 +1,27 @@
 -- The bytes of a list tell it, but for what is not written. Assumes nothing.
 use mathlib.Core.Path.{_≡_, refl, sym, ap, _∙_}
-use mathlib.Core.Logic.{_⊎_, inl, inr, ⊎-elim}
+use mathlib.Core.Logic.{_⊎_, ⊎-elim}
 use mathlib.Core.List.{List, [], _∷_, _++_, map}
-use Prim.Native.Nat.{ℕ, _+_, _*_, _^_, _≤_, _<_}
+use Prim.Native.Nat.{ℕ, _+_}
 use native.Mathlib.Omega.{arith}
 use lib.IntN.{ℤ, pos, negsuc}
 use lib.ListN.{length}
 use Rattle.std.specs.Joined.{joined}
 use Rattle.std.specs.shelf.Lists.{All}
-use Rattle.std.proofs.shelf.Lists.{append-assoc, append-nil, length-map}
+use Rattle.std.proofs.shelf.Lists.{append-assoc, length-map}
 use Rattle.std.proofs.shelf.Signed.{ints}
-use Rattle.std.proofs.shelf.Elements.{all-append}
 use Rattle.boxlist.specs.declared.Kind.{Kind}
 use Rattle.boxlist.specs.declared.Kind.the-variants as kinds
 use Rattle.boxlist.specs.declared.Store.{Store}
 use Rattle.boxlist.specs.declared.Store.the-variants as stores
 use Rattle.boxlist.specs.declared.BoxRecord.{BoxRecord}
-use Rattle.boxlist.specs.Groups.{groupsOf, allGroups, zigzag}
+use Rattle.boxlist.specs.Groups.{groupsOf, allGroups}
 use Rattle.boxlist.specs.Format.{kindNumber, storeNumber, natural, frameNumbers, partNumbers, onlyOfWords, boxNumbers, headNumbers, listNumbers, bytesOfBox, bytesOf}
-use Rattle.boxlist.specs.Lists.{Sized, Counted, WritablePart, WritableBox, Writable, plainBy, plain, Alike}
+use Rattle.boxlist.specs.Lists.{Counted, WritableBox, Writable, plainBy, plain, Alike}
 use Rattle.boxlist.proofs.Joins.{joined-append}
 use Rattle.boxlist.proofs.Spelling.{rows-apart}
 use Rattle.boxlist.proofs.Folds.{folds-apart}
-use Rattle.boxlist.proofs.Bytes.{bytes-list, bytes-word, bytes-rule}
+use Rattle.boxlist.proofs.Bytes.{bytes-list}
 
 joined-boxes : (boxes : List BoxRecord) → joined bytesOfBox boxes ≡ allGroups (joined boxNumbers boxes)
 unfolding bytesOfBox

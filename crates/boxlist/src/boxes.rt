@@ -1,14 +1,11 @@
 //! Boxes as numbers: which are written, how many bytes they take, and the bytes.
 ghost use mathlib.Core.Path.{_≡_};
-ghost use mathlib.Core.List.{_++_};
-ghost use Prim.Native.Nat.{_+_, _*_, _^_, _≤_, _<_};
+ghost use Prim.Native.Nat.{_+_, _*_, _^_, _≤_};
 ghost use lib.ListN.{length};
 ghost use Rattle.std.specs.Joined.{joined};
-ghost use Rattle.boxlist.specs.Groups.{allGroups, zigzag};
 ghost use Rattle.boxlist.specs.Over.{over};
 ghost use Rattle.boxlist.specs.Format.{kindNumber, storeNumber, natural, frameNumbers, partNumbers, bytesOfBox, bytesOf, headNumbers};
 ghost use Rattle.boxlist.specs.Writing.{sized, counted, goodFrame, goodPart, goodBox, goodBoxes, goodHead, writable};
-
 use crate::BoxList;
 use crate::BoxRecord;
 use crate::Kind;
@@ -20,20 +17,21 @@ use crate::numbers::put_all;
 // The largest size of a number in a list.
 const LARGEST: i64 = 1 << 40;
 
-// A number that may have a sign.
+// Whether a number that may be below zero is not too large.
 fn is_sized(n: i64) -> bool
     ensures { λ r. ⌜ r ≡ sized n ⌝ }
 {
     -LARGEST <= n && n <= LARGEST
 }
 
-// A number that may not be below zero.
+// Whether a number is neither below zero nor too large.
 fn is_counted(n: i64) -> bool
     ensures { λ r. ⌜ r ≡ counted n ⌝ }
 {
     0 <= n && n <= LARGEST
 }
 
+// The numbers that every box has.
 fn is_good_frame(rec: &BoxRecord) -> bool
     ensures { λ r. ⌜ r ≡ goodFrame (now (rec .entry)) ⌝ }
 {
@@ -44,6 +42,7 @@ fn is_good_frame(rec: &BoxRecord) -> bool
         && is_counted(rec.depth)
 }
 
+// The store, the place and the length, which only a word has.
 fn is_good_part(rec: &BoxRecord) -> bool
     ensures { λ r. ⌜ r ≡ goodPart (now (rec .entry)) ⌝ }
 {
@@ -53,6 +52,7 @@ fn is_good_part(rec: &BoxRecord) -> bool
     }
 }
 
+// Whether a box may be written; nothing is asked of a rule's store, place and length.
 fn is_good_box(rec: &BoxRecord) -> bool
     ensures { λ r. ⌜ r ≡ goodBox (now (rec .entry)) ⌝ }
 {
@@ -74,6 +74,7 @@ fn are_good_boxes(boxes: &[BoxRecord]) -> bool
     true
 }
 
+// The numbers before the boxes.
 fn is_good_head(width: i64, height: i64, count: usize) -> bool
     ensures { λ r. ⌜ r ≡ goodHead width height count ⌝ }
 {
@@ -87,6 +88,7 @@ pub(crate) fn is_writable(list: BoxList<'_>) -> bool
     is_good_head(list.width, list.height, list.boxes.len()) && are_good_boxes(list.boxes)
 }
 
+// The number that a kind goes out as; an unlisted one never does.
 fn kind_number(kind: Kind) -> u64
     ensures { λ r. ⌜ r ≡ kindNumber kind ⌝ }
 {
@@ -97,6 +99,7 @@ fn kind_number(kind: Kind) -> u64
     }
 }
 
+// The number that a store goes out as; an unlisted one never does.
 fn store_number(store: Store) -> u64
     ensures { λ r. ⌜ r ≡ storeNumber store ⌝ }
 {
@@ -107,15 +110,11 @@ fn store_number(store: Store) -> u64
     }
 }
 
-// A number from zero up as it is.
+// A number from zero up as it is; one below zero never goes out so.
 fn unsigned(n: i64) -> u64
     ensures { λ r. ⌜ r ≡ natural n ⌝ }
 {
-    if n >= 0 {
-        n as u64
-    } else {
-        0
-    }
+    if n >= 0 { n as u64 } else { 0 }
 }
 
 // The numbers that every box has.

@@ -1,6 +1,5 @@
 //! The list of boxes that a raster program draws, and its bytes.
 ghost use mathlib.Core.Path.{_≡_};
-ghost use Prim.Native.Nat.{_+_, _*_, _^_, _≤_, _<_};
 ghost use lib.ListN.{length};
 ghost use Rattle.boxlist.specs.Spellings.{Groups-shortest, Others-longer, Shortest-ends-well, Spelling-shows-end, Groups-apart, Six-groups, Folds-up, Folds-below, Folds-apart, Folds-onto};
 ghost use Rattle.boxlist.specs.Writing.{writeAnswer, writtenOver};
@@ -17,26 +16,27 @@ use faults::Fault;
 // What a box draws.
 #[derive(Clone, Copy, PartialEq, Eq, Debug)]
 pub enum Kind {
-    // a word's bytes
+    // a word, number 1
     Word,
-    // a rule across the table
+    // a \hrule across the table, number 2
     Rule,
-    // none of these: always refused, whatever the number
+    // neither: always refused, whatever the number
     Unlisted(i64),
 }
 
 // The text that holds a word's bytes.
 #[derive(Clone, Copy, PartialEq, Eq, Debug)]
 pub enum Store {
-    // the text of the preamble
+    // the preamble text, number 0
     Preamble,
-    // the text of the lines
+    // the line text, number 1
     Lines,
-    // none of these: always refused, whatever the number
+    // neither: always refused, whatever the number
     Unlisted(i64),
 }
 
-// A box, with its left edge `x` and its baseline `y`; a rule has no store, place and length.
+// A box: its left edge and its baseline (of a \hrule its lower edge), its extents, and the part of a text that a word stands in.
+// Of a \hrule the store, the place and the length mean nothing.
 #[derive(Clone, Copy, PartialEq, Eq, Debug)]
 pub struct BoxRecord {
     pub kind: Kind,
@@ -58,7 +58,7 @@ pub struct BoxList<'a> {
     pub boxes: &'a [BoxRecord],
 }
 
-// The bytes of a list from the front on, and how many they are. A refusal writes nothing.
+// The bytes of a list from the front of `out` on, and how many they are. A refusal writes nothing.
 pub fn write(list: BoxList<'_>, out: &mut [u8]) -> Result<usize, Fault>
     ensures answer { λ r. ⌜ r ≡ writeAnswer (list .entry .width) (list .entry .height) (now (list .entry .boxes)) (length (now (out .entry))) ⌝ }
     ensures bytes { λ _. ⌜ now (out .exit) ≡ writtenOver (list .entry .width) (list .entry .height) (now (list .entry .boxes)) (now (out .entry)) ⌝ }
@@ -111,8 +111,7 @@ pub fn numbers_have_one_spelling()
     ensures ends { λ _. ⌜ Spelling-shows-end ⌝ }
     ensures apart { λ _. ⌜ Groups-apart ⌝ }
     ensures six { λ _. ⌜ Six-groups ⌝ }
-{
-}
+{}
 
 // Signed numbers and unsigned ones are matched one to one.
 pub fn signs_fold_one_to_one()
@@ -120,8 +119,7 @@ pub fn signs_fold_one_to_one()
     ensures below { λ _. ⌜ Folds-below ⌝ }
     ensures apart { λ _. ⌜ Folds-apart ⌝ }
     ensures onto { λ _. ⌜ Folds-onto ⌝ }
-{
-}
+{}
 
 // Equal bytes mean equal lists, but for what is not written of a rule.
 pub fn bytes_tell_the_list()
@@ -130,5 +128,4 @@ pub fn bytes_tell_the_list()
     ensures ends { λ _. ⌜ List-shows-end ⌝ }
     ensures idle { λ _. ⌜ Unwritten-idle ⌝ }
     ensures six { λ _. ⌜ Six-each ⌝ }
-{
-}
+{}

@@ -1,6 +1,6 @@
 //! Numbers as bytes: groups of seven bits, the lowest first, the top bit set on all but the last.
 ghost use mathlib.Core.Path.{_≡_};
-ghost use Prim.Native.Nat.{_+_, _*_, _^_, _≤_, _<_};
+ghost use Prim.Native.Nat.{_+_, _≤_};
 ghost use lib.ListN.{length};
 ghost use Rattle.boxlist.specs.Groups.{groupsOf, allGroups, zigzag};
 ghost use Rattle.boxlist.specs.Over.{over};
@@ -46,7 +46,7 @@ fn put_number(n: u64, out: &mut [u8], start: usize) -> usize
     place + 1
 }
 
-// How many bytes the numbers take.
+// How many bytes the numbers take; no number has more than ten groups.
 pub(crate) fn count_all(numbers: &[u64]) -> usize
     requires { ⌜ length (now numbers) ≤ 9 ⌝ }
     ensures total { λ r. ⌜ r ≡ length (allGroups (now (numbers .entry))) ⌝ }

@@ -10,5 +10,5 @@ returns c =
       tell = bytes-tell-list;
       ends = list-shows-end;
       idle = unwritten-idle;
-      six = six-each
+      six = six-each;
     }

@@ -9,5 +9,5 @@ returns c =
       last = shortest-ends-well;
       ends = spelling-shows-end;
       apart = groups-apart;
-      six = six-groups
+      six = six-groups;
     }

@@ -1,6 +1,5 @@
 use mathlib.Core.Path.{sym, ap, _∙_}
 use mathlib.Core.Logic.{⊎-elim}
-use Prim.Native.Nat.{_+_}
 use native.Mathlib.Omega.{arith}
 use lib.ListN.{length}
 use Rattle.std.proofs.shelf.Lists.{length-append}
@@ -17,7 +16,7 @@ returns-in-Word c =
     let both = length-append (allGroups (frameNumbers (c .args .rec .now))) (allGroups (partNumbers (c .args .rec .now))) in
     record {
       total = omega arith;
-      within = omega arith
+      within = omega arith;
     }
 
 pub returns-in-Rule : need.returns-in-Rule
@@ -25,5 +24,5 @@ returns-in-Rule c =
     let whole = ⊎-elim (bytes-rule (c .args .rec .now)) (λ p. bytes-unlisted (c .args .rec .now) (p .0) (p .1)) (c .in-Rule .is) in
     record {
       total = c .count-all-frame .ensures .total ∙ ap (λ l. length (allGroups l)) (c .frame-of .ensures) ∙ sym (ap length whole);
-      within = omega arith
+      within = omega arith;
     }

@@ -18,5 +18,5 @@ pub returns : need.returns
 returns c =
     record {
       total = c .loop-rec .inv .0 ∙ ap (λ l. length (joined bytesOfBox l)) (take-all (c .loop-rec .rec-index) (c .args .boxes .now) (search needs));
-      within = omega (arith, c .loop-rec .inv .1)
+      within = omega (arith, c .loop-rec .inv .1);
     }

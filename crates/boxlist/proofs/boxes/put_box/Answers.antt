@@ -1,14 +1,12 @@
-use mathlib.Core.Path.{_≡_, sym, ap, subst, _∙_}
+use mathlib.Core.Path.{sym, ap, _∙_}
 use mathlib.Core.Logic.{⊎-elim}
-use mathlib.Core.List.{_++_}
 use Prim.Native.Nat.{_+_, _≤_}
 use native.Mathlib.Omega.{arith}
 use lib.ListN.{length}
-use borrow.Author.Needs.{needs}
 use Rattle.std.proofs.shelf.Lists.{length-append}
 use Rattle.boxlist.specs.Groups.{allGroups}
 use Rattle.boxlist.specs.Over.{over}
-use Rattle.boxlist.specs.Format.{frameNumbers, partNumbers, bytesOfBox}
+use Rattle.boxlist.specs.Format.{frameNumbers, partNumbers}
 use Rattle.boxlist.proofs.Bytes.{bytes-word, bytes-rule, bytes-unlisted, frame-within}
 use Rattle.boxlist.proofs.Overs.{over-append}
 use Rattle.boxlist.proofs.boxes.put_box.Needs as need
@@ -40,7 +38,7 @@ returns-in-Word c =
           ∙ ap (λ l. over (c .put-all-place .last .out) (c .put-all-place .result) l) part
           ∙ ap (λ l. over l (c .put-all-place .result) (allGroups (partNumbers (c .args .rec .now)))) (c .put-all-place .ensures .bytes ∙ ap (over (c .args .out .now) (c .args .start)) frame)
           ∙ over-append (allGroups (frameNumbers (c .args .rec .now))) (allGroups (partNumbers (c .args .rec .now))) (c .args .out .now) (c .args .start) (c .put-all-place .result) room next
-          ∙ ap (over (c .args .out .now) (c .args .start)) (sym whole)
+          ∙ ap (over (c .args .out .now) (c .args .start)) (sym whole);
     }
 
 pub returns-in-Rule : need.returns-in-Rule
@@ -49,5 +47,5 @@ returns-in-Rule c =
     let whole = ⊎-elim (bytes-rule (c .args .rec .now)) (λ p. bytes-unlisted (c .args .rec .now) (p .0) (p .1)) (c .in-Rule .is) in
     record {
       next = c .put-all-place .ensures .next ∙ ap (λ l. c .args .start + length l) (frame ∙ sym whole);
-      bytes = c .put-all-place .ensures .bytes ∙ ap (over (c .args .out .now) (c .args .start)) (frame ∙ sym whole)
+      bytes = c .put-all-place .ensures .bytes ∙ ap (over (c .args .out .now) (c .args .start)) (frame ∙ sym whole);
     }

@@ -1,4 +1,4 @@
-use mathlib.Core.Path.{_≡_, sym, ap, _∙_}
+use mathlib.Core.Path.{sym, ap, _∙_}
 use Prim.Native.Nat.{_+_, _≤_}
 use lib.ListN.{length}
 use native.Mathlib.Omega.{arith}
@@ -22,9 +22,6 @@ put-boxes-requires c κs =
 
 pub returns : need.returns
 returns c =
-    let t = c .args .list .width in
-    let h = c .args .list .height in
-    let n = length (c .args .list .boxes .now) in
     let head = ap allGroups (c .head-of .ensures) in
     let next = c .put-all-place .ensures .next ∙ ap (λ l. 0 + length l) head in
     let long = length-bytes-list (c .args .list .width) (c .args .list .height) (c .args .list .boxes .now) in

@@ -25,5 +25,5 @@ pub returns : need.returns
 returns c =
     record {
       total = c .loop-n .inv .0 ∙ ap (λ l. length (allGroups l)) (take-all (c .loop-n .n-index) (c .args .numbers .now) (search needs));
-      within = omega (arith, c .loop-n .inv .1)
+      within = omega (arith, c .loop-n .inv .1);
     }

@@ -1,4 +1,4 @@
-use mathlib.Core.Path.{_≡_, sym, ap, _∙_}
+use mathlib.Core.Path.{sym, ap, _∙_}
 use Prim.Native.Nat.{_+_, _≤_}
 use lib.ListN.{length, getD, take}
 use native.Mathlib.Omega.{arith}
@@ -19,8 +19,6 @@ put-number-place-requires c κs =
 
 pub loop-n-again : need.loop-n-again
 loop-n-again c =
-    let ns = c .args .numbers .now in
-    let i = c .loop-n .n-index in
     let long = length-joined-more groupsOf (c .args .numbers .now) (c .loop-n .n-index) 0 (c .loop-n-test .taken) in
     let room : c .args .start + length (allGroups (take (c .loop-n .n-index) (c .args .numbers .now))) ≤ length (c .args .out .now) = omega (arith, length-joined-front groupsOf (c .args .numbers .now) (c .loop-n .n-index)) in (
       omega (arith, c .put-number-place .ensures .next),
@@ -36,5 +34,5 @@ returns c =
     let all = take-all (c .loop-n .n-index) (c .args .numbers .now) (search needs) in
     record {
       next = c .loop-n .inv .0 ∙ ap (λ l. c .args .start + length (allGroups l)) all;
-      bytes = c .loop-n .inv .2 ∙ ap (λ l. over (c .args .out .now) (c .args .start) (allGroups l)) all
+      bytes = c .loop-n .inv .2 ∙ ap (λ l. over (c .args .out .now) (c .args .start) (allGroups l)) all;
     }

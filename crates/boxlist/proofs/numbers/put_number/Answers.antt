@@ -30,5 +30,5 @@ returns c =
       next = omega (arith, length-groups-last);
       bytes = over-last (c .loop-left .out) (c .loop-left .place) (c .loop-left .left) (omega (arith, length-groups-last))
           ∙ ap (over (c .loop-left .out) (c .loop-left .place)) (sym (groups-last (c .loop-left .left) (c .loop-left-test .left)))
-          ∙ c .loop-left .inv .2
+          ∙ c .loop-left .inv .2;
     }
