@@ -6,12 +6,12 @@ use lib.Dec.{ltb}
 use lib.IntN.{ℤ, pos, negsuc}
 use Rattle.std.specs.Joined.{joined}
 
--- at most this many groups more than one
+-- the groups of a number, with at most so many before the last
 abbrev pub groupsBy : ℕ → ℕ → List ℕ
 groupsBy zero n = n ∷ []
 groupsBy (suc turns) n = cond (ltb n 128) (n ∷ []) ((n % 128 + 128) ∷ groupsBy turns (n / 128))
 
--- the groups of a number; it has at most n + 1
+-- the groups of a number; n of them before the last are more than enough
 unfoldable pub groupsOf : ℕ → List ℕ
 groupsOf n = groupsBy n n
 
