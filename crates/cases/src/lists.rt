@@ -49,13 +49,64 @@ fn word(x: i64, y: i64, width: i64, place: i64, len: i64) -> BoxRecord {
 
 #[test]
 fn list_bytes() -> Result<(), Fail> {
-    let boxes = [word(0, 7, 20, 0, 2), word(20, 7, 10, 2, 1), word(0, 16, 10, 3, 1)];
+    let boxes = [
+        word(0, 7, 20, 0, 2),
+        word(20, 7, 10, 2, 1),
+        word(0, 16, 10, 3, 1),
+    ];
     let mut out = [0xee; 40];
-    check_eq(write(BoxList { width: 30, height: 18, boxes: &boxes }, &mut out), Ok(30))?;
+    check_eq(
+        write(
+            BoxList {
+                width: 30,
+                height: 18,
+                boxes: &boxes,
+            },
+            &mut out,
+        ),
+        Ok(30),
+    )?;
     let expected = [
-        0x1e, 0x12, 0x03, 0x01, 0x00, 0x07, 0x28, 0x07, 0x02, 0x01, 0x00, 0x02, 0x01, 0x28, 0x07, 0x14, 0x07, 0x02,
-        0x01, 0x02, 0x01, 0x01, 0x00, 0x10, 0x14, 0x07, 0x02, 0x01, 0x03, 0x01, 0xee, 0xee, 0xee, 0xee, 0xee, 0xee,
-        0xee, 0xee, 0xee, 0xee,
+        0x1e,
+        0x12,
+        0x03,
+        0x01,
+        0x00,
+        0x07,
+        0x28,
+        0x07,
+        0x02,
+        0x01,
+        0x00,
+        0x02,
+        0x01,
+        0x28,
+        0x07,
+        0x14,
+        0x07,
+        0x02,
+        0x01,
+        0x02,
+        0x01,
+        0x01,
+        0x00,
+        0x10,
+        0x14,
+        0x07,
+        0x02,
+        0x01,
+        0x03,
+        0x01,
+        0xee,
+        0xee,
+        0xee,
+        0xee,
+        0xee,
+        0xee,
+        0xee,
+        0xee,
+        0xee,
+        0xee,
     ];
     check(out == expected)
 }
@@ -65,27 +116,103 @@ fn refused(boxes: &[BoxRecord], room: usize, cause: Cause) -> Result<(), Fail> {
     if room > 64 {
         return check(false);
     }
-    check_eq(write(BoxList { width: 0, height: 0, boxes }, &mut out[0..room]), Err(cause.at(0)))?;
+    check_eq(
+        write(
+            BoxList {
+                width: 0,
+                height: 0,
+                boxes,
+            },
+            &mut out[0..room],
+        ),
+        Err(cause.at(0)),
+    )?;
     check(out == [0xee; 64])
 }
 
 #[test]
 fn list_refusals() -> Result<(), Fail> {
-    refused(&[BoxRecord { kind: Kind::Unlisted(3), ..EMPTY }], 64, Cause::BadBox)?;
+    refused(
+        &[BoxRecord {
+            kind: Kind::Unlisted(3),
+            ..EMPTY
+        }],
+        64,
+        Cause::BadBox,
+    )?;
     refused(&[BoxRecord { y: -1, ..EMPTY }], 64, Cause::BadBox)?;
-    refused(&[BoxRecord { x: 1_099_511_627_777, ..EMPTY }], 0, Cause::BadBox)?;
-    refused(&[BoxRecord { kind: Kind::Word, store: Store::Unlisted(2), ..EMPTY }], 64, Cause::BadBox)?;
-    refused(&[BoxRecord { kind: Kind::Word, len: -1, ..EMPTY }], 64, Cause::BadBox)?;
+    refused(
+        &[BoxRecord {
+            x: 1_099_511_627_777,
+            ..EMPTY
+        }],
+        0,
+        Cause::BadBox,
+    )?;
+    refused(
+        &[BoxRecord {
+            kind: Kind::Word,
+            store: Store::Unlisted(2),
+            ..EMPTY
+        }],
+        64,
+        Cause::BadBox,
+    )?;
+    refused(
+        &[BoxRecord {
+            kind: Kind::Word,
+            len: -1,
+            ..EMPTY
+        }],
+        64,
+        Cause::BadBox,
+    )?;
     refused(&[BoxRecord { len: -1, ..EMPTY }], 8, Cause::TooLittleRoom)?;
     refused(&[EMPTY], 8, Cause::TooLittleRoom)
 }
 
 #[test]
 fn number_bytes() -> Result<(), Fail> {
-    let boxes = [BoxRecord { x: -1_099_511_627_776, y: 128, width: -1, height: 16_384, depth: 127, ..EMPTY }];
+    let boxes = [BoxRecord {
+        x: -1_099_511_627_776,
+        y: 128,
+        width: -1,
+        height: 16_384,
+        depth: 127,
+        ..EMPTY
+    }];
     let mut out = [0; 18];
-    check_eq(write(BoxList { width: 0, height: 0, boxes: &boxes }, &mut out), Ok(17))?;
-    let expected = [0, 0, 1, 2, 0xff, 0xff, 0xff, 0xff, 0xff, 0x3f, 0x80, 0x01, 0x01, 0x80, 0x80, 0x01, 0x7f, 0];
+    check_eq(
+        write(
+            BoxList {
+                width: 0,
+                height: 0,
+                boxes: &boxes,
+            },
+            &mut out,
+        ),
+        Ok(17),
+    )?;
+    let expected = [
+        0,
+        0,
+        1,
+        2,
+        0xff,
+        0xff,
+        0xff,
+        0xff,
+        0xff,
+        0x3f,
+        0x80,
+        0x01,
+        0x01,
+        0x80,
+        0x80,
+        0x01,
+        0x7f,
+        0,
+    ];
     check(out == expected)
 }
 
@@ -107,12 +234,24 @@ fn fetches_nothing(record: BoxRecord) -> Result<(), Fail> {
 fn fetched_parts() -> Result<(), Fail> {
     fetches(word(0, 0, 0, 1, 3), b"ine")?;
     fetches(word(0, 0, 0, 5, 0), b"")?;
-    fetches(BoxRecord { store: Store::Preamble, ..word(0, 0, 0, 3, 5) }, b"amble")?;
+    fetches(
+        BoxRecord {
+            store: Store::Preamble,
+            ..word(0, 0, 0, 3, 5)
+        },
+        b"amble",
+    )?;
     fetches_nothing(word(0, 0, 0, 5, 1))?;
     fetches_nothing(word(0, 0, 0, -1, 1))?;
     fetches_nothing(word(0, 0, 0, 1, -1))?;
-    fetches_nothing(BoxRecord { kind: Kind::Rule, ..word(0, 0, 0, 0, 1) })?;
-    fetches_nothing(BoxRecord { store: Store::Unlisted(2), ..word(0, 0, 0, 0, 1) })
+    fetches_nothing(BoxRecord {
+        kind: Kind::Rule,
+        ..word(0, 0, 0, 0, 1)
+    })?;
+    fetches_nothing(BoxRecord {
+        store: Store::Unlisted(2),
+        ..word(0, 0, 0, 0, 1)
+    })
 }
 
 fn mono(pitch: i64, last: i64) -> Result<Mono, Fault> {
@@ -123,12 +262,23 @@ fn mono(pitch: i64, last: i64) -> Result<Mono, Fault> {
 fn measurers() -> Result<(), Fail> {
     let strip = mono(10, 126)?;
     match measured(&strip, b"ab~") {
-        Ok(metrics) => check(metrics.width == Plain { strip: 30 } && metrics.depth == Plain { strip: 2 })?,
+        Ok(metrics) => check(
+            metrics.width == Plain { strip: 30 } && metrics.depth == Plain { strip: 2 },
+        )?,
         Err(_) => check(false)?,
     }
-    let twin = TwinMeasurer { strip, window: mono(4, 97)? };
+    let twin = TwinMeasurer {
+        strip,
+        window: mono(4, 97)?,
+    };
     match measured(&twin, b"aa") {
-        Ok(metrics) => check(metrics.width == Twin { strip: 20, window: 8 })?,
+        Ok(metrics) => check(
+            metrics.width
+                == Twin {
+                    strip: 20,
+                    window: 8,
+                },
+        )?,
         Err(_) => check(false)?,
     }
     match measured(&twin, b"aab") {

@@ -32,7 +32,7 @@ fn tokens() -> Result<(), Fail> {
     reads(b"a1.-|]x y", 0, Token::Word { place: 0, len: 7 }, 7)?;
     reads(b"a\\&b", 1, Token::Word { place: 2, len: 1 }, 3)?;
     reads(b"\\$ x", 0, Token::Word { place: 1, len: 1 }, 2)?;
-    reads(b"\\cr  \n x", 0, Token::Control(Control::Cr), 6)?;
+    reads(b"\\cr  \n x", 0, Token::Control(Control::Cr), 7)?;
     reads(b"\\cr1", 0, Token::Control(Control::Cr), 3)?;
     reads(b"\\noalign{", 0, Token::Control(Control::Noalign), 8)?;
     reads(b"a&#{}", 1, Token::Ampersand, 2)?;

@@ -5,6 +5,7 @@ use std::fmt;
 
 // The largest size of a natural width and of a gap, in scaled points.
 const WIDEST: i64 = 1_073_741_823;
+
 const WIDEST_GAP: i64 = 16_777_215;
 
 // What is wrong with a line.
@@ -40,7 +41,10 @@ pub impl<T: Drop> From<Refused<T>> for Wrong as WrongFromRefused {
 pub impl fmt::Display for Wrong as WrongDisplay {
     fn fmt<W: fmt::Write>(&self, f: &mut fmt::Formatter<W>) -> fmt::Result {
         match *self {
-            Wrong::UnknownWord => write!(f, "unknown word; known are columns, sides, gap and entry"),
+            Wrong::UnknownWord => write!(
+                f,
+                "unknown word; known are columns, sides, gap and entry"
+            ),
             Wrong::NumberOfWords => write!(f, "too few or too many words"),
             Wrong::NotANumber => write!(f, "not a whole number"),
             Wrong::NoColumns => write!(f, "columns must come first"),
@@ -50,7 +54,10 @@ pub impl fmt::Display for Wrong as WrongDisplay {
             Wrong::SidesLate => write!(f, "sides must come before the entries"),
             Wrong::NoSuchGap => write!(f, "gaps are 0 to the number of columns"),
             Wrong::GapRange => write!(f, "a gap lies within 16777215 of zero"),
-            Wrong::NoSuchSpan => write!(f, "an entry goes from a column to the same or a later one of the table"),
+            Wrong::NoSuchSpan => write!(
+                f,
+                "an entry goes from a column to the same or a later one of the table"
+            ),
             Wrong::WidthRange => write!(f, "a width lies within 1073741823 of zero"),
             Wrong::NoMemory => write!(f, "out of memory"),
         }
@@ -76,12 +83,17 @@ pub struct Job {
 }
 
 impl Job {
-    pub fn new(heap: Global) -> Job {
-        Job { columns: 0, sides: 1, gaps: Vec::new(heap), rows: Vec::new(heap) }
+    pub(crate) fn new(heap: Global) -> Job {
+        Job {
+            columns: 0,
+            sides: 1,
+            gaps: Vec::new(heap),
+            rows: Vec::new(heap),
+        }
     }
 
     // Takes one line of the input. Blank lines and those that begin with `;` are passed over.
-    pub fn read(&mut self, heap: Global, line: &str) -> Result<(), Wrong> {
+    pub(crate) fn read(&mut self, heap: Global, line: &str) -> Result<(), Wrong> {
         if line.starts_with(';') {
             return Ok(());
         }
@@ -151,7 +163,13 @@ impl Job {
         } else {
             0
         };
-        self.rows.push(Row { first, last, strip, window })?;
+        self.rows
+            .push(Row {
+                first,
+                last,
+                strip,
+                window,
+            })?;
         Ok(())
     }
 }

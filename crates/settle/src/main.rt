@@ -47,7 +47,11 @@ fn plain_entries(heap: Global, rows: &[Row]) -> Result<Vec<Entry<Plain>>, AllocE
     let mut entries = Vec::new(heap);
     for row in rows {
         let width = Plain { strip: row.strip };
-        entries.push(Entry { first: row.first.saturating_sub(1), last: row.last.saturating_sub(1), width })?;
+        entries.push(Entry {
+            first: row.first.saturating_sub(1),
+            last: row.last.saturating_sub(1),
+            width,
+        })?;
     }
     Ok(entries)
 }
@@ -55,8 +59,15 @@ fn plain_entries(heap: Global, rows: &[Row]) -> Result<Vec<Entry<Plain>>, AllocE
 fn twin_entries(heap: Global, rows: &[Row]) -> Result<Vec<Entry<Twin>>, AllocError> {
     let mut entries = Vec::new(heap);
     for row in rows {
-        let width = Twin { strip: row.strip, window: row.window };
-        entries.push(Entry { first: row.first.saturating_sub(1), last: row.last.saturating_sub(1), width })?;
+        let width = Twin {
+            strip: row.strip,
+            window: row.window,
+        };
+        entries.push(Entry {
+            first: row.first.saturating_sub(1),
+            last: row.last.saturating_sub(1),
+            width,
+        })?;
     }
     Ok(entries)
 }

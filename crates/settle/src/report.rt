@@ -40,7 +40,7 @@ pub impl From<AllocError> for Stop as StopFromAlloc {
 }
 
 // What was read, a line for each thing.
-pub fn print_job(rt: &LibcRuntime, job: &Job) -> Result<(), Stop> {
+pub(crate) fn print_job(rt: &LibcRuntime, job: &Job) -> Result<(), Stop> {
     let columns = job.columns;
     let sides = job.sides;
     println!(rt, "columns {columns}")?;
@@ -94,7 +94,13 @@ fn gap_at<E: Extent>(gaps: &[i64], at: usize) -> E {
 }
 
 // Each later W(q,j) that is there, less the advance of column q.
-fn print_carries<E: Extent>(rt: &LibcRuntime, row: &[Option<E>], q: usize, gap: E, side: usize) -> Result<(), Stop> {
+fn print_carries<E: Extent>(
+    rt: &LibcRuntime,
+    row: &[Option<E>],
+    q: usize,
+    gap: E,
+    side: usize,
+) -> Result<(), Stop> {
     let width = width_at(row, q);
     let by = advance(width, gap);
     let w = on_side(width_counted(width), side);
@@ -106,13 +112,21 @@ fn print_carries<E: Extent>(rt: &LibcRuntime, row: &[Option<E>], q: usize, gap: 
         if let (Some(from), Some(to)) = (*span, lessened(*span, by)) {
             let x = on_side(from, side);
             let y = on_side(to, side);
-            println!(rt, "  carry {first}-{last} into {next}-{last}: {x} - ({w} + {g}) = {y}")?;
+            println!(
+                rt,
+                "  carry {first}-{last} into {next}-{last}: {x} - ({w} + {g}) = {y}"
+            )?;
         }
     }
     Ok(())
 }
 
-fn print_width<E: Extent>(rt: &LibcRuntime, column: usize, width: Option<E>, side: usize) -> Result<(), Stop> {
+fn print_width<E: Extent>(
+    rt: &LibcRuntime,
+    column: usize,
+    width: Option<E>,
+    side: usize,
+) -> Result<(), Stop> {
     match width {
         Some(w) => {
             let w = on_side(w, side);
@@ -124,7 +138,13 @@ fn print_width<E: Extent>(rt: &LibcRuntime, column: usize, width: Option<E>, sid
 }
 
 // The merge on one side, column by column.
-fn print_merge<E: Extent>(rt: &LibcRuntime, table: &SpanTable<E>, gaps: &[i64], row: &mut [Option<E>], side: usize) -> Result<(), Stop> {
+fn print_merge<E: Extent>(
+    rt: &LibcRuntime,
+    table: &SpanTable<E>,
+    gaps: &[i64],
+    row: &mut [Option<E>],
+    side: usize,
+) -> Result<(), Stop> {
     table.begin(row)?;
     for q in 0..table.columns {
         let column = q.saturating_add(1);
@@ -138,8 +158,14 @@ fn print_merge<E: Extent>(rt: &LibcRuntime, table: &SpanTable<E>, gaps: &[i64], 
 }
 
 // Widths, gaps as they count and natural right edges on one side.
-fn print_columns<E: Extent>(rt: &LibcRuntime, gaps: &[i64], widths: &[Option<E>], edges: &[E], side: usize) -> Result<(), Stop> {
-    println!(rt, "column       width         gap  right edge")?;
+fn print_columns<E: Extent>(
+    rt: &LibcRuntime,
+    gaps: &[i64],
+    widths: &[Option<E>],
+    edges: &[E],
+    side: usize,
+) -> Result<(), Stop> {
+    println!(rt, "column         width           gap    right edge")?;
     for (j, edge) in edges.iter().enumerate() {
         let column = j.saturating_add(1);
         let width = width_at(widths, j);
@@ -148,11 +174,11 @@ fn print_columns<E: Extent>(rt: &LibcRuntime, gaps: &[i64], widths: &[Option<E>]
         match width {
             Some(w) => {
                 let w = on_side(w, side);
-                println!(rt, "{column:>6}{w:>12}{gap:>12}{right:>12}")?;
+                println!(rt, "{column:>6}{w:>14}{gap:>14}{right:>14}")?;
             }
             None => {
                 let w = "void";
-                println!(rt, "{column:>6}{w:>12}{gap:>12}{right:>12}")?;
+                println!(rt, "{column:>6}{w:>14}{gap:>14}{right:>14}")?;
             }
         }
     }
@@ -160,14 +186,21 @@ fn print_columns<E: Extent>(rt: &LibcRuntime, gaps: &[i64], widths: &[Option<E>]
 }
 
 // Settles the entries, and prints the steps and the columns for each side.
-pub fn report<E: Extent>(rt: &LibcRuntime, job: &Job, entries: &[Entry<E>]) -> Result<(), Stop> {
+pub(crate) fn report<E: Extent>(
+    rt: &LibcRuntime,
+    job: &Job,
+    entries: &[Entry<E>],
+) -> Result<(), Stop> {
     let heap = rt.alloc();
     let mut cells: Vec<Option<E>> = filled(heap, None, 1024)?;
     let mut widths: Vec<Option<E>> = filled(heap, None, job.columns)?;
     let mut row: Vec<Option<E>> = filled(heap, None, job.columns)?;
     let mut edges = filled(heap, E::zero(), job.columns)?;
     let gaps = job.gaps.as_slice();
-    let mut table = SpanTable { columns: job.columns, cells: cells.as_mut_slice() };
+    let mut table = SpanTable {
+        columns: job.columns,
+        cells: cells.as_mut_slice(),
+    };
     table.settle(entries, gaps, widths.as_mut_slice())?;
     let total = natural_edges(job.columns, gaps, widths.as_slice(), edges.as_mut_slice())?;
     for side in 0..job.sides {

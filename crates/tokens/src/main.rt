@@ -1,5 +1,6 @@
 //! Lists the tokens of a manuscript, one to a line, up to its end or its first fault.
 use faults::Fault;
+use faults::FaultDebug;
 use faults::FaultDisplay;
 use lengths::glue::glue_at;
 use lengths::length::length_at;
@@ -60,7 +61,13 @@ fn print_glue(rt: &LibcRuntime, text: &[u8], place: usize) -> Result<usize, Stop
 }
 
 // A control word with the length or the glue that belongs to it, and the place behind them.
-fn print_control(rt: &LibcRuntime, text: &[u8], place: usize, control: Control, end: usize) -> Result<usize, Stop> {
+fn print_control(
+    rt: &LibcRuntime,
+    text: &[u8],
+    place: usize,
+    control: Control,
+    end: usize,
+) -> Result<usize, Stop> {
     match control {
         Control::Kern => {
             print_name(rt, place, "\\kern")?;
