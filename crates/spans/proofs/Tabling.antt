@@ -20,13 +20,13 @@ use Rattle.spans.specs.Tables.{cell, Tabled}
 
 pub tabled-none : {E : Type 0} (count : ℕ) (num : E → ℕ → ℤ) (n : ℕ) (table : List (Option E)) → n ≤ 32 → ((p : ℕ) → p < n * 32 → getD table p None ≡ None) → Tabled count num n table []
 tabled-none count num n table few empty =
-    record { proper = tt; widths = λ k i j kc ic jc. ap (seen num k) (empty (i * 32 + j) (omega arith)) ∙ sym (widest-empty i j) }
+    record { proper = tt; widths = λ k i j kc ij jc. ap (seen num k) (empty (i * 32 + j) (omega arith)) ∙ sym (widest-empty i j) }
 
 module _ {E : Type 0} (count : ℕ) (num : E → ℕ → ℤ) (n : ℕ) (old new : List (Option E)) (e : Entry E) (few : n ≤ 32) (forward : e .first ≤ e .last) (within : e .last < n)
     (here : (k : ℕ) → k < count → seen num k (cell new (e .first) (e .last)) ≡ join (seen num k (cell old (e .first) (e .last))) (Some (num (e .width) k)))
     (others : (p : ℕ) → (p ≡ e .first * 32 + e .last → ⊥) → getD new p None ≡ getD old p None) where
-  cell-after : (k i j : ℕ) → k < count → i < n → j < n → seen num k (cell new i j) ≡ join (seen num k (cell old i j)) (asked (sided num k e) i j)
-  cell-after k i j kc ic jc =
+  cell-after : (k i j : ℕ) → k < count → i ≤ j → j < n → seen num k (cell new i j) ≡ join (seen num k (cell old i j)) (asked (sided num k e) i j)
+  cell-after k i j kc ij jc =
       let elsewhere : (e .first ≡ i → e .last ≡ j → ⊥) → seen num k (cell new i j) ≡ join (seen num k (cell old i j)) (asked (sided num k e) i j) = λ ne.
       let place : (i * 32 + j ≡ e .first * 32 + e .last → ⊥) = λ eq. ne (omega arith) (omega arith) in
       ap (seen num k) (others (i * 32 + j) place) ∙ sym (ap (join (seen num k (cell old i j))) (asked-other (sided num k e) i j ne) ∙ join-none (seen num k (cell old i j))) in
@@ -44,7 +44,7 @@ module _ {E : Type 0} (count : ℕ) (num : E → ℕ → ℤ) (n : ℕ) (old new
   tabled-push es t =
       record {
         proper = all-push (λ x. (x .first ≤ x .last) × (x .last < n)) es e (t .proper) (forward, within);
-        widths = λ k i j kc ic jc. cell-after k i j kc ic jc ∙ ap (λ o. join o (asked (sided num k e) i j)) (t .widths k i j kc ic jc)
+        widths = λ k i j kc ij jc. cell-after k i j kc ij jc ∙ ap (λ o. join o (asked (sided num k e) i j)) (t .widths k i j kc ij jc)
             ∙ sym (widest-push (onSide num k es) (sided num k e) i j) ∙ ap (λ xs. widest xs i j) (sym (map-append (sided num k) es (e ∷ [])));
       }
 

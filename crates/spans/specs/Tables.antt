@@ -1,7 +1,7 @@
 -- A span table in lent memory, and its sides. Assumes nothing.
 use mathlib.Core.Path.{_≡_}
 use mathlib.Core.List.{List, [], _∷_, _++_}
-use Prim.Native.Nat.{ℕ, suc, _+_, _*_, _<_}
+use Prim.Native.Nat.{ℕ, suc, _+_, _*_, _≤_, _<_}
 use lib.IntN.{ℤ, pos}
 use lib.ListN.{getD}
 use Rattle.std.specs.declared.option.Option.{Option}
@@ -11,7 +11,7 @@ use Rattle.std.specs.declared.result.Result.the-variants.{Ok, Err}
 use Rattle.widths.specs.declared.Entry.{Entry}
 use Rattle.widths.specs.Merging.{seen}
 use Rattle.widths.specs.Entries.{widest, onSide, Proper}
-use Rattle.widths.specs.Settling.{Tame, Settled}
+use Rattle.widths.specs.Settling.{Tame, Sized, Settled}
 
 -- the cell for the columns i to j
 abbrev pub cell : {E : Type 0} → List (Option E) → ℕ → ℕ → Option E
@@ -20,7 +20,7 @@ cell table i j = getD table (i * 32 + j) None
 -- the memory holds the larger-of of these entries: on each side, for each span of the n columns
 pub record Tabled {E : Type 0} (count : ℕ) (num : E → ℕ → ℤ) (n : ℕ) (table : List (Option E)) (es : List (Entry E)) : Type 0 where
   pub proper : Proper n es
-  pub widths : (k i j : ℕ) → k < count → i < n → j < n → seen num k (cell table i j) ≡ widest (onSide num k es) i j
+  pub widths : (k i j : ℕ) → k < count → i ≤ j → j < n → seen num k (cell table i j) ≡ widest (onSide num k es) i j
 
 -- the entry, where it was accepted
 abbrev pub accepted : {E X Y : Type 0} → Result X Y → Entry E → List (Entry E)
@@ -41,6 +41,10 @@ after entered k gaps j = entered k (getD gaps (j + 1) (pos 0))
 -- side k of n widths is settled for the entries between the gaps
 abbrev pub SettledOn : {E : Type 0} → (E → ℕ → ℤ) → (ℕ → ℤ → ℤ) → ℕ → List (Entry E) → List ℤ → ℕ → List (Option E) → Type 0
 SettledOn num entered k es gaps n ws = Settled (onSide num k es) (starting entered k gaps) (after entered k gaps) n (column num k ws)
+
+-- side k of n widths and of the gaps lies in the range in which extents are exact
+abbrev pub SizedOn : {E : Type 0} → (E → ℕ → ℤ) → (ℕ → ℤ → ℤ) → ℕ → List ℤ → ℕ → List (Option E) → Type 0
+SizedOn num entered k gaps n ws = Sized (starting entered k gaps) (after entered k gaps) n (column num k ws)
 
 -- side k of the entries and the gaps' lengths keep to a table's sizes
 abbrev pub TameOn : {E : Type 0} → (E → ℕ → ℤ) → ℕ → List (Entry E) → List ℤ → Type 0

@@ -117,6 +117,7 @@ impl<'a, E: Extent> SpanTable<'a, E> {
         ensures columns { λ _. ⌜ now (self .exit) .columns ≡ now (self .entry) .columns ⌝ }
         ensures room { λ _. ⌜ length (now (now (self .exit) .cells)) ≡ length (now (now (self .entry) .cells)) ⌝ }
         ensures noted { λ r. ⌜ ((es : List (Noted E)) → Tabled count num (now (self .entry) .columns) (now (now (self .entry) .cells)) es → Tabled count num (now (self .entry) .columns) (now (now (self .exit) .cells)) (es ++ accepted r entry)) ⌝ }
+        ensures here { λ r. ⌜ (isOk r ≡ true → (k : ℕ) → k < count → seen num k (cell (now (now (self .exit) .cells)) (entry .first) (entry .last)) ≡ join (seen num k (cell (now (now (self .entry) .cells)) (entry .first) (entry .last))) (Some (num (entry .width) k))) ⌝ }
         ensures others { λ _. ⌜ ((p : ℕ) → (p ≡ entry .first * 32 + entry .last → ⊥) → getD (now (now (self .exit) .cells)) p None ≡ getD (now (now (self .entry) .cells)) p None) ⌝ }
         ensures refused { λ r. ⌜ (isOk r ≡ false → now (now (self .exit) .cells) ≡ now (now (self .entry) .cells)) ⌝ }
     {

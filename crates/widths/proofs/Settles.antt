@@ -10,7 +10,7 @@ use Rattle.extent.specs.Sizes.{Within, Near}
 use Rattle.widths.specs.Merging.{size, step, width}
 use Rattle.widths.specs.Formula.{between, moves, reach}
 use Rattle.widths.specs.Entries.{widest}
-use Rattle.widths.specs.Settling.{Tame, Settled, Merging-settles, instead}
+use Rattle.widths.specs.Settling.{Tame, Sized, Settled, Merging-settles, instead}
 use Rattle.widths.proofs.Sums.{between-same}
 use Rattle.widths.proofs.Merges.{meets, only-merged}
 use Rattle.widths.proofs.Sizes.{WithinIf, row-near, right-near, left-near}
@@ -34,9 +34,11 @@ merging-settles es start g n w few proper tame same =
       void = λ j lt. (void-ends es g w n fits proper j, ends-void es g w n fits j lt);
       holds = entries-held es g w n fits proper;
       least = λ v holds j lt. let e = edges-least es g w n fits v holds j lt in omega (arith, ints);
-      gaps = λ j. wider (g j) (tame .gaps j);
-      sizes = λ j lt. subst (λ o. Near (size o)) (sym (same j lt)) (row-near W g small (tame .gaps) j j (omega arith));
-      edges = λ j lt. let e : reach (width W g) g 0 j ≡ reach w g 0 j = let a = sum-same j (omega arith) in let b = same j lt in cc in
-          subst (λ z. Near (start +ℤ z)) e (right-near W g small (tame .gaps) start j (tame .starting) (omega arith));
-      sums = λ j le. subst (λ z. Near (start +ℤ z)) (sum-same j le) (left-near W g small (tame .gaps) start j (tame .starting) (omega arith));
+      sized = record {
+        gaps = λ j. wider (g j) (tame .gaps j);
+        widths = λ j lt. subst (λ o. Near (size o)) (sym (same j lt)) (row-near W g small (tame .gaps) j j (omega arith));
+        edges = λ j lt. let e : reach (width W g) g 0 j ≡ reach w g 0 j = let a = sum-same j (omega arith) in let b = same j lt in cc in
+            subst (λ z. Near (start +ℤ z)) e (right-near W g small (tame .gaps) start j (tame .starting) (omega arith));
+        sums = λ j le. subst (λ z. Near (start +ℤ z)) (sum-same j le) (left-near W g small (tame .gaps) start j (tame .starting) (omega arith));
+      };
     }

@@ -24,6 +24,13 @@ abbrev pub instead : Option ℤ → ℤ → Option ℤ
 instead (Some w) z = Some z
 instead None z = None
 
+-- gaps, widths, right edges and sums of n columns that lie in the range in which extents are exact
+pub record Sized (start : ℤ) (g : ℕ → ℤ) (n : ℕ) (w : ℕ → Option ℤ) : Type 0 where
+  pub gaps : (j : ℕ) → Near (g j)
+  pub widths : (j : ℕ) → j < n → Near (size (w j))
+  pub edges : (j : ℕ) → j < n → Near (edge start w g j)
+  pub sums : (j : ℕ) → j ≤ n → Near (natural start w g j)
+
 -- w are the widths of n columns that the entries ask for between the gaps
 pub record Settled (es : List (Entry ℤ)) (start : ℤ) (g : ℕ → ℤ) (n : ℕ) (w : ℕ → Option ℤ) : Type 0 where
   -- what The Program merges rightward
@@ -39,10 +46,7 @@ pub record Settled (es : List (Entry ℤ)) (start : ℤ) (g : ℕ → ℤ) (n : 
   -- every other choice of widths with room has each right edge at ours or farther right
   pub least : (v : ℕ → ℤ) → Holds (λ k. instead (w k) (v k)) g es → (j : ℕ) → j < n → edge start w g j ≤ℤ edge start (λ k. instead (w k) (v k)) g j
   -- no number leaves the range in which extents are exact
-  pub gaps : (j : ℕ) → Near (g j)
-  pub sizes : (j : ℕ) → j < n → Near (size (w j))
-  pub edges : (j : ℕ) → j < n → Near (edge start w g j)
-  pub sums : (j : ℕ) → j ≤ n → Near (natural start w g j)
+  pub sized : Sized start g n w
 
 -- merging settles: whatever has the merged widths is settled
 abbrev pub Merging-settles : Type 0

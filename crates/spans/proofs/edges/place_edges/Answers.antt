@@ -17,7 +17,7 @@ use Rattle.extent.specs.Sizes.{Near}
 use Rattle.widths.specs.Merging.{seen, size, counted, step}
 use Rattle.widths.specs.Formula.{between, moves, edge, natural}
 use Rattle.widths.proofs.Sums.{between-none, between-more}
-use Rattle.spans.specs.Tables.{column, starting, after, SettledOn}
+use Rattle.spans.specs.Tables.{column, starting, after, SizedOn}
 use Rattle.spans.proofs.edges.place_edges.Needs as need
 
 natural-none : (start : ℤ) (w : ℕ → Option ℤ) (g : ℕ → ℤ) → start ≡ natural start w g 0
@@ -39,9 +39,9 @@ loop-j-holds g c =
     let gaps = c .args .gaps .now in
     let gap : ℤ = getD gaps 0 (pos 0) in
     let fits : SFits w64 gap = search needs in (
-      (λ k es kc settled. c .enter-left .ensures k kc ∙ ap (m .entered k) (toZ-ofZ w64 gap fits)
+      (λ k kc sized. c .enter-left .ensures k kc ∙ ap (m .entered k) (toZ-ofZ w64 gap fits)
           ∙ natural-none (starting (m .entered) k gaps) (column (m .num) k (c .args .widths .now)) (after (m .entered) k gaps)),
-      (λ k es kc settled i d lt. absurd (omega arith)),
+      (λ k kc sized i d lt. absurd (omega arith)),
       search needs,
     )
 
@@ -56,25 +56,25 @@ loop-j-again g c =
     let fits : SFits w64 gap = search needs in
     let is : x ≡ getD ws j None = getD-read ws j x (omega arith) (c .index-widths-j .is) None in
     let stored : c .store .last .slice ≡ set (c .loop-j .edges) j (c .sum-right .result) = c .store .ensures in
-    let right-is : (k : ℕ) → k < m .count → (es : _) → SettledOn (m .num) (m .entered) k es gaps (c .args .columns) ws → m .num (c .sum-right .result) k ≡ edge (starting (m .entered) k gaps) (column (m .num) k ws) (after (m .entered) k gaps) j =
-    λ k kc es settled.
-    let a = c .loop-j .inv .0 k es kc settled in
+    let right-is : (k : ℕ) → k < m .count → SizedOn (m .num) (m .entered) k gaps (c .args .columns) ws → m .num (c .sum-right .result) k ≡ edge (starting (m .entered) k gaps) (column (m .num) k ws) (after (m .entered) k gaps) j =
+    λ k kc sized.
+    let a = c .loop-j .inv .0 k kc sized in
     let b : m .num (c .width-counted .result) k ≡ size (column (m .num) k ws j) = c .width-counted .ensures k kc ∙ ap (λ o. size (seen (m .num) k o)) is in
-    c .sum-right .ensures k kc (subst Near (sym a) (settled .sums j (omega arith))) (subst Near (sym b) (settled .sizes j (omega arith)))
+    c .sum-right .ensures k kc (subst Near (sym a) (sized .sums j (omega arith))) (subst Near (sym b) (sized .widths j (omega arith)))
     ∙ ap (λ z. z +ℤ m .num (c .width-counted .result) k) a ∙ ap (λ z. natural (starting (m .entered) k gaps) (column (m .num) k ws) (after (m .entered) k gaps) j +ℤ z) b
     ∙ edge-from (starting (m .entered) k gaps) (column (m .num) k ws) (after (m .entered) k gaps) j in (
-      (λ k es kc settled.
-          let a = right-is k kc es settled in
+      (λ k kc sized.
+          let a = right-is k kc sized in
           let e : m .num (c .enter .result) k ≡ after (m .entered) k gaps j = c .enter .ensures k kc ∙ ap (m .entered k) (toZ-ofZ w64 gap fits) in
           let b : m .num (c .gap-counted .result) k ≡ counted (column (m .num) k ws j) (after (m .entered) k gaps j) =
           c .gap-counted .ensures k kc ∙ ap (λ o. counted (seen (m .num) k o) (m .num (c .enter .result) k)) is ∙ ap (counted (column (m .num) k ws j)) e in
-          c .sum-left .ensures k kc (subst Near (sym a) (settled .edges j (omega arith))) (subst Near (sym b) (near-counted (column (m .num) k ws j) (after (m .entered) k gaps j) (settled .gaps j)))
+          c .sum-left .ensures k kc (subst Near (sym a) (sized .edges j (omega arith))) (subst Near (sym b) (near-counted (column (m .num) k ws j) (after (m .entered) k gaps j) (sized .gaps j)))
           ∙ ap (λ z. z +ℤ m .num (c .gap-counted .result) k) a ∙ ap (λ z. edge (starting (m .entered) k gaps) (column (m .num) k ws) (after (m .entered) k gaps) j +ℤ z) b
           ∙ natural-more (starting (m .entered) k gaps) (column (m .num) k ws) (after (m .entered) k gaps) j),
-      (λ k es kc settled i d lt. ⊎-elim
+      (λ k kc sized i d lt. ⊎-elim
           (λ here. subst (λ n. m .num (getD (c .store .last .slice) n d) k ≡ edge (starting (m .entered) k gaps) (column (m .num) k ws) (after (m .entered) k gaps) n) (sym here)
-          (ap (λ s. m .num (getD s j d) k) stored ∙ ap (λ v. m .num v k) (getD-set-same (c .loop-j .edges) j (c .sum-right .result) d (omega arith)) ∙ right-is k kc es settled))
-          (λ ne. ap (λ s. m .num (getD s i d) k) stored ∙ ap (λ v. m .num v k) (getD-set-other (c .loop-j .edges) j i (c .sum-right .result) d ne) ∙ c .loop-j .inv .1 k es kc settled i d (omega arith))
+          (ap (λ s. m .num (getD s j d) k) stored ∙ ap (λ v. m .num v k) (getD-set-same (c .loop-j .edges) j (c .sum-right .result) d (omega arith)) ∙ right-is k kc sized))
+          (λ ne. ap (λ s. m .num (getD s i d) k) stored ∙ ap (λ v. m .num v k) (getD-set-other (c .loop-j .edges) j i (c .sum-right .result) d ne) ∙ c .loop-j .inv .1 k kc sized i d (omega arith))
           (cases-eq i j)),
       (λ i d h. ap (λ s. getD s i d) stored ∙ getD-set-other (c .loop-j .edges) j i (c .sum-right .result) d (omega arith) ∙ c .loop-j .inv .2 i d (omega arith)),
     )
@@ -86,7 +86,7 @@ returns g c =
     let gaps = c .args .gaps .now in
     let ws = c .args .widths .now in
     record {
-      total = λ k es kc settled. c .loop-j .inv .0 k es kc settled ∙ ap (natural (starting (m .entered) k gaps) (column (m .num) k ws) (after (m .entered) k gaps)) end;
-      placed = λ k es kc settled j d lt. c .loop-j .inv .1 k es kc settled j d (omega arith);
+      total = λ k kc sized. c .loop-j .inv .0 k kc sized ∙ ap (natural (starting (m .entered) k gaps) (column (m .num) k ws) (after (m .entered) k gaps)) end;
+      placed = λ k kc sized j d lt. c .loop-j .inv .1 k kc sized j d (omega arith);
       rest = λ j d h. c .loop-j .inv .2 j d (omega arith);
     }

@@ -19,6 +19,7 @@ returns g c =
       columns = search needs;
       room = search needs;
       noted = tabled-push (m .count) (m .num) (t .columns) (t .cells .now) (c .widen .last .cells) e (lies .fits .few) (lies .forward) (lies .within) (c .widen .ensures .here) (c .widen .ensures .others);
+      here = λ _. c .widen .ensures .here;
       others = c .widen .ensures .others;
       refused = search needs;
     }
