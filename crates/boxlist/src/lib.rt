@@ -1,4 +1,6 @@
 //! The list of boxes that a raster program draws, and its bytes.
+#![tactic(auto)]
+
 ghost use Rattle.std.specs.Prelude.{◌≡◌, length};
 ghost use Rattle.boxlist.specs.Spellings.{GroupsShortest, OthersLonger, ShortestEndsWell, SpellingShowsEnd, GroupsApart, SixGroups, FoldsUp, FoldsBelow, FoldsApart, FoldsOnto};
 ghost use Rattle.boxlist.specs.Writing.{write_answer, written_over};

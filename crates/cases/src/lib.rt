@@ -1,4 +1,6 @@
 //! Vectors for tokens, lengths, glue, measurers and the bytes of a list, run as tests.
+#![tactic(auto)]
+
 #[cfg(test)]
 mod lists;
 #[cfg(test)]

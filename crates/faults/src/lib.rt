@@ -1,4 +1,6 @@
 //! Refusals: a cause, a place and the layer that refuses.
+#![tactic(auto)]
+
 ghost use Rattle.std.specs.Prelude.{◌≡◌, Some};
 ghost use Rattle.faults.specs.Faults.{number_of, layer_of, layer_number, fault_at, text_of};
 

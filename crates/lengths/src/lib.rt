@@ -1,4 +1,6 @@
 //! Lengths and stretches as a manuscript spells them, in 65,536ths of a point.
+#![tactic(auto)]
+
 mod amount;
 mod dimen;
 mod fraction;

@@ -1,4 +1,6 @@
 //! Measurers: the width, height and depth of a word, and the width of a space.
+#![tactic(auto)]
+
 pub mod measurer;
 pub mod mono;
 pub mod twin;

@@ -1,4 +1,6 @@
 //! The table: a preamble, rows by calls, rules, gaps, and the widths of the columns.
+#![tactic(auto)]
+
 pub mod asks;
 pub mod cells;
 pub mod lines;

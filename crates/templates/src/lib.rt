@@ -1,4 +1,6 @@
 //! Preambles: a text with a template for each column, read into memory that the host lends.
+#![tactic(auto)]
+
 mod columns;
 mod items;
 mod kinds;

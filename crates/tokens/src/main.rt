@@ -1,4 +1,6 @@
 //! Lists the tokens of a manuscript, one to a line, up to its end or its first fault.
+#![tactic(auto)]
+
 use faults::Fault;
 use lengths::glue::glue_at;
 use lengths::length::length_at;

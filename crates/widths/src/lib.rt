@@ -1,4 +1,6 @@
 //! The widths of columns: how optional extents are merged, and what the merged widths are.
+#![tactic(auto)]
+
 ghost use Rattle.std.specs.Prelude.{◌≡◌, ℕ, ◌<◌};
 ghost use Rattle.extent.specs.Sizes.{Near};
 ghost use Rattle.widths.specs.declared.Entry.{Entry as Span};
