@@ -161,8 +161,8 @@ fn control_named(first: u8, more: &[u8]) -> Option<Control>
 
 // The control word at `place`: its letters are `next` and the longest run in `rest`, and the spaces behind them are skipped.
 fn control_word(next: u8, rest: &[u8], place: usize) -> Result<Lexeme, Fault>
-    requires rest_bound { place + 2 + length rest.now < 2 ^ 64 }
-    requires next_value { name_byte next ≡ true }
+    requires inside { place + 2 + length rest.now < 2 ^ 64 }
+    requires letter { name_byte next ≡ true }
     ensures { result ≡ control_word (next ∷ rest.now) place }
 {
     let letters = run_len(Run::Letters, rest);

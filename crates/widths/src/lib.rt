@@ -37,14 +37,14 @@ impl<E: Copy> Spanned<E> for Entry<E> {
 
 // A column's width as it counts: zero for a void one.
 pub fn width_counted<E: Extent>(w: Option<E>) -> E
-    ensures { (k : ℕ) → k < count → num result k ≡ size (seen num k w) }
+    ensures { (k : ℕ) → k < E.count → E.num result k ≡ size (seen E.num k w) }
 {
     w.unwrap_or(E::zero())
 }
 
 // The gap after a column as it counts: zero after a void one.
 pub fn gap_counted<E: Extent>(w: Option<E>, gap: E) -> E
-    ensures { (k : ℕ) → k < count → num result k ≡ counted (seen num k w) (num gap k) }
+    ensures { (k : ℕ) → k < E.count → E.num result k ≡ counted (seen E.num k w) (E.num gap k) }
 {
     match w {
         Some(_) => gap,
@@ -54,14 +54,14 @@ pub fn gap_counted<E: Extent>(w: Option<E>, gap: E) -> E
 
 // How far a column moves what follows it.
 pub fn advance<E: Extent>(w: Option<E>, gap: E) -> E
-    ensures { (k : ℕ) → k < count → Near (size (seen num k w)) → Near (num gap k) → num result k ≡ step (seen num k w) (num gap k) }
+    ensures { (k : ℕ) → k < E.count → Near (size (seen E.num k w)) → Near (E.num gap k) → E.num result k ≡ step (seen E.num k w) (E.num gap k) }
 {
     width_counted(w).sum(gap_counted(w, gap))
 }
 
 // A width that is less by an extent, where there is one.
 pub fn lessened<E: Extent>(x: Option<E>, by: E) -> Option<E>
-    ensures { (k : ℕ) → k < count → Near (size (seen num k x)) → Near (num by k) → seen num k result ≡ less (seen num k x) (num by k) }
+    ensures { (k : ℕ) → k < E.count → Near (size (seen E.num k x)) → Near (E.num by k) → seen E.num k result ≡ less (seen E.num k x) (E.num by k) }
 {
     match x {
         Some(e) => Some(e.difference(by)),
@@ -71,7 +71,7 @@ pub fn lessened<E: Extent>(x: Option<E>, by: E) -> Option<E>
 
 // The larger of two widths, of which any may be missing.
 pub fn joined<E: Extent>(a: Option<E>, b: Option<E>) -> Option<E>
-    ensures { (k : ℕ) → k < count → seen num k result ≡ join (seen num k a) (seen num k b) }
+    ensures { (k : ℕ) → k < E.count → seen E.num k result ≡ join (seen E.num k a) (seen E.num k b) }
 {
     match (a, b) {
         (Some(x), Some(y)) => Some(x.larger(y)),

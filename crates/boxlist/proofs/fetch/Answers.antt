@@ -4,5 +4,5 @@ use Rattle.boxlist.proofs.fetch.Goals as goal
 
 pub returns : goal.returns
 returns c =
-    let a = held-is c.named-part.result c.at.result c.ok-or.result c.args.rec.now c.args.preamble.now c.args.lines.now c.named-part.ensures c.at.ensures c.ok-or.ensures.value in
-    record { answer = a; law = fetched c.args.rec.now c.args.preamble.now c.args.lines.now (held c.ok-or.result) a }
+    let a = held-is c.named_part.result c.at.result c.ok_or.result c.args.rec.now c.args.preamble.now c.args.lines.now c.named_part.ensures c.at.ensures c.ok_or.ensures.value in
+    record { answer = a; law = fetched c.args.rec.now c.args.preamble.now c.args.lines.now (held c.ok_or.result) a }

@@ -5,5 +5,5 @@ use Rattle.boxlist.proofs.boxes.list_len.Goals as goal
 
 pub returns : goal.returns
 returns c =
-    let head = c.count-all.ensures.total ∙ ap (λ l. length (all_groups l)) c.head-of.ensures in
+    let head = c.count_all.ensures.total ∙ ap (λ l. length (all_groups l)) c.head_of.ensures in
     omega (arith, length-bytes_list c.args.list.width c.args.list.height c.args.list.boxes.now)

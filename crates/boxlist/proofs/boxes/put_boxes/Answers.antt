@@ -11,17 +11,17 @@ use Rattle.boxlist.proofs.boxes.put_boxes.Goals as goal
 pub loop-rec-init : goal.loop-rec-init
 loop-rec-init c = (omega arith, c.requires, sym (over_none c.args.out.now c.args.start))
 
-pub put-box-place-requires : goal.put-box-place-requires
-put-box-place-requires c =
+pub put_box-place-requires : goal.put_box-place-requires
+put_box-place-requires c =
     omega (arith, length-joined_more bytes_of_box c.args.boxes.now c.loop-rec.rec-index blank c.loop-rec-test.true, length-joined_front bytes_of_box c.args.boxes.now (c.loop-rec.rec-index + 1))
 
 pub loop-rec-preserved : goal.loop-rec-preserved
 loop-rec-preserved c =
     let long = length-joined_more bytes_of_box c.args.boxes.now c.loop-rec.rec-index blank c.loop-rec-test.true in
     let room : c.args.start + length (flat_map bytes_of_box (take c.loop-rec.rec-index c.args.boxes.now)) ≤ length c.args.out.now = omega (arith, length-joined_front bytes_of_box c.args.boxes.now c.loop-rec.rec-index) in (
-      omega (arith, c.put-box-place.ensures.next),
-      omega (arith, c.put-box-place.auto.out),
-      c.put-box-place.ensures.bytes
+      omega (arith, c.put_box-place.ensures.next),
+      omega (arith, c.put_box-place.auto.out),
+      c.put_box-place.ensures.bytes
           ∙ ap (λ l. over l c.loop-rec.place (bytes_of_box (get_or c.args.boxes.now c.loop-rec.rec-index blank))) c.loop-rec.invariant.2
           ∙ over-append (flat_map bytes_of_box (take c.loop-rec.rec-index c.args.boxes.now)) (bytes_of_box (get_or c.args.boxes.now c.loop-rec.rec-index blank)) c.args.out.now c.args.start c.loop-rec.place room c.loop-rec.invariant.0
           ∙ ap (over c.args.out.now c.args.start) (sym (joined-take_more bytes_of_box c.args.boxes.now c.loop-rec.rec-index blank c.loop-rec-test.true)),

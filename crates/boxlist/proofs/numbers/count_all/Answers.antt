@@ -5,8 +5,8 @@ use Rattle.boxlist.proofs.Steps.{length-groups_le}
 use Rattle.boxlist.proofs.Joins.{length-joined_more}
 use Rattle.boxlist.proofs.numbers.count_all.Goals as goal
 
-pub overflow-add-total : goal.overflow-add-total
-overflow-add-total c =
+pub overflow_add-total : goal.overflow_add-total
+overflow_add-total c =
     let small : get_or c.args.numbers.now c.loop-n.n-index 0 < 128 ^ 10 = search rules in
     let few = length-groups_le 9 (get_or c.args.numbers.now c.loop-n.n-index 0) small in
     search rules

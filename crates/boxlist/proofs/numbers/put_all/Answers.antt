@@ -9,17 +9,17 @@ use Rattle.boxlist.proofs.numbers.put_all.Goals as goal
 pub loop-n-init : goal.loop-n-init
 loop-n-init c = (omega arith, c.requires, sym (over_none c.args.out.now c.args.start))
 
-pub put-number-place-requires : goal.put-number-place-requires
-put-number-place-requires c =
+pub put_number-place-requires : goal.put_number-place-requires
+put_number-place-requires c =
     omega (arith, length-joined_more groups_of c.args.numbers.now c.loop-n.n-index 0 c.loop-n-test.true, length-joined_front groups_of c.args.numbers.now (c.loop-n.n-index + 1))
 
 pub loop-n-preserved : goal.loop-n-preserved
 loop-n-preserved c =
     let long = length-joined_more groups_of c.args.numbers.now c.loop-n.n-index 0 c.loop-n-test.true in
     let room : c.args.start + length (all_groups (take c.loop-n.n-index c.args.numbers.now)) ≤ length c.args.out.now = omega (arith, length-joined_front groups_of c.args.numbers.now c.loop-n.n-index) in (
-      omega (arith, c.put-number-place.ensures.next),
-      omega (arith, c.put-number-place.auto.out),
-      c.put-number-place.ensures.bytes
+      omega (arith, c.put_number-place.ensures.next),
+      omega (arith, c.put_number-place.auto.out),
+      c.put_number-place.ensures.bytes
           ∙ ap (λ l. over l c.loop-n.place (groups_of (get_or c.args.numbers.now c.loop-n.n-index 0))) c.loop-n.invariant.2
           ∙ over-append (all_groups (take c.loop-n.n-index c.args.numbers.now)) (groups_of (get_or c.args.numbers.now c.loop-n.n-index 0)) c.args.out.now c.args.start c.loop-n.place room c.loop-n.invariant.0
           ∙ ap (over c.args.out.now c.args.start) (sym (joined-take_more groups_of c.args.numbers.now c.loop-n.n-index 0 c.loop-n-test.true)),

@@ -14,8 +14,8 @@ pub returns-in-Ok : goal.returns-in-Ok
 returns-in-Ok g c =
     let meant = g.M.Measurer.meaning c.args.m.now in
     let w = c.args.word.now in
-    let h = word_fits w (sym c.in-default.ensures) in
-    let a = measured-word meant w (Ok c.in-Ok.metrics) c.in-default.ensures (c.in-Ok.ensures.answer h) in
+    let h = word_fits w (sym c.in_default.ensures) in
+    let a = measured-word meant w (Ok c.in-Ok.metrics) c.in_default.ensures (c.in-Ok.ensures.answer h) in
     let l = measured-law meant w (Ok c.in-Ok.metrics) a in
     record { answer = a; meant = λ h. a ∙ measured-meant meant w h; law = l; within = g.met.M.Measurer.bounded c.args.m.now w c.in-Ok.metrics h l.1 }
 
@@ -23,7 +23,7 @@ pub returns-in-Err : goal.returns-in-Err
 returns-in-Err g c =
     let meant = g.M.Measurer.meaning c.args.m.now in
     let w = c.args.word.now in
-    let h = word_fits w (sym c.in-default.ensures) in
-    let a = measured-missing meant w c.at.result c.in-Err.place c.in-default.ensures (c.in-Err.ensures.answer h) c.at.ensures in
+    let h = word_fits w (sym c.in_default.ensures) in
+    let a = measured-missing meant w c.at.result c.in-Err.place c.in_default.ensures (c.in-Err.ensures.answer h) c.at.ensures in
     let l = measured-law meant w (Err c.at.result) a in
     record { answer = a; meant = λ h. a ∙ measured-meant meant w h; law = l; within = measured-place meant w c.at.result (g.met.M.Measurer.placed c.args.m.now w) l }

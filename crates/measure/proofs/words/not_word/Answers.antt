@@ -5,10 +5,10 @@ use Rattle.measure.proofs.words.not_word.Goals as goal
 pub returns-in-Some : goal.returns-in-Some
 returns-in-Some c = ap Some c.at.ensures ∙ unfit-byte c.args.bytes.now c.in-Some.place (sym c.in-Some.ensures)
 
-pub returns-then-not-is-word-length : goal.returns-then-not-is-word-length
-returns-then-not-is-word-length c =
-    ap Some c.at-then-not-is-word-length.ensures
-    ∙ unfit-length c.args.bytes.now (sym c.in-default.ensures) (sym c.if-not-is-word-length.ensures)
+pub returns-then-not-is_word_length : goal.returns-then-not-is_word_length
+returns-then-not-is_word_length c =
+    ap Some c.at-then-not-is_word_length.ensures
+    ∙ unfit-length c.args.bytes.now (sym c.in_default.ensures) (sym c.if-not-is_word_length.ensures)
 
 pub returns : goal.returns
-returns c = fits_word c.args.bytes.now (sym c.in-default.ensures) (sym c.if-not-is-word-length.ensures)
+returns c = fits_word c.args.bytes.now (sym c.in_default.ensures) (sym c.if-not-is_word_length.ensures)

@@ -16,6 +16,6 @@ returns-then-place-text c =
 pub returns : goal.returns
 unfolding spaces_end
 returns c =
-    let run : c.run-len.result ≡ prefix_len blank_byte (drop c.args.place c.args.text.now) = c.run-len.ensures.is ∙ ap (prefix_len blank_byte) (take_rest c.args.text.now c.args.place) in
-    let is : c.args.place + c.run-len.result ≡ spaces_end c.args.text.now c.args.place = ap (λ n. c.args.place + n) run in
+    let run : c.run_len.result ≡ prefix_len blank_byte (drop c.args.place c.args.text.now) = c.run_len.ensures.is ∙ ap (prefix_len blank_byte) (take_rest c.args.text.now c.args.place) in
+    let is : c.args.place + c.run_len.result ≡ spaces_end c.args.text.now c.args.place = ap (λ n. c.args.place + n) run in
     record { answer = is; law = subst (Longest blank_byte c.args.text.now c.args.place) (sym is) (spaces-longest c.args.text.now c.args.place) }

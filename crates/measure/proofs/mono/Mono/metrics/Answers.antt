@@ -2,8 +2,8 @@ use Rattle.std.proofs.Common.{rules}
 use Rattle.measure.specs.Pitched.{product-fits, product_is}
 use Rattle.measure.proofs.mono.Mono.metrics.Goals as goal
 
-pub overflow-mul-result : goal.overflow-mul-result
-overflow-mul-result c = product-fits c.args.self.now.pitch c.args.count c.args.self.now.ranges.0 c.requires
+pub overflow_mul-result : goal.overflow_mul-result
+overflow_mul-result c = product-fits c.args.self.now.pitch c.args.count c.args.self.now.ranges.0 c.requires
 
 pub returns : goal.returns
 returns c =
