@@ -1,4 +1,4 @@
-ghost use Rattle.std.specs.Prelude.{◌≡◌, ℕ, ◌*◌, ◌<◌, ◌≤◌, true, false, map, length, is_ok, None, slice_index_or};
+ghost use Rattle.std.specs.Prelude.{◌≡◌, ℕ, ◌*◌, ◌<◌, ◌≤◌, true, false, [], length, is_ok, None, slice_index_or};
 ghost use Rattle.widths.specs.Entries.{Proper};
 ghost use Rattle.spans.specs.Tables.{Tabled, SettledOn, TameOn};
 ghost use Rattle.spans.specs.Refusals.{lie, all_lie, settle_fault, unless};
@@ -6,19 +6,19 @@ ghost use Rattle.spans.specs.Refusals.{lie, all_lie, settle_fault, unless};
 use crate::merge::merge_fault;
 use crate::table::{Misfit, SpanTable, empty_cells, widen};
 use extent::Extent;
-use widths::{Entry, Spanned};
+use widths::Entry;
 
-fn lies<E: Extent>(columns: usize, span: Entry<E>) -> bool
-    ensures { result ≡ lie columns span }
+fn lies<E: Extent>(columns: usize, entry: Entry<E>) -> bool
+    ensures { result ≡ lie columns entry }
 {
-    span.first <= span.last && span.last < columns
+    entry.first <= entry.last && entry.last < columns
 }
 
-fn all_lie<E: Extent, R: Spanned<E>>(columns: usize, entries: &[R]) -> bool
-    ensures { result ≡ all_lie columns (map R.Spanned.entry entries.now) }
+fn all_lie<E: Extent>(columns: usize, entries: &[Entry<E>]) -> bool
+    ensures { result ≡ all_lie columns entries.now }
 {
     for entry in entries {
-        if !lies(columns, entry.span()) {
+        if !lies(columns, *entry) {
             return false;
         }
     }
@@ -26,31 +26,30 @@ fn all_lie<E: Extent, R: Spanned<E>>(columns: usize, entries: &[R]) -> bool
 }
 
 // Forgets what the cells hold and notes these entries.
-fn note_entries<E: Extent, R: Spanned<E>>(cells: &mut [Option<E>], columns: usize, entries: &[R])
-    requires { (columns ≤ 32) × ((columns * 32 ≤ length cells.old) × (Proper columns (map R.Spanned.entry entries.now))) }
-    ensures { Tabled count num columns cells.new (map R.Spanned.entry entries.now) }
+fn note_entries<E: Extent>(cells: &mut [Option<E>], columns: usize, entries: &[Entry<E>])
+    requires { (columns ≤ 32) × ((columns * 32 ≤ length cells.old) × (Proper columns entries.now)) }
+    ensures { Tabled count num columns cells.new entries.now }
 {
     empty_cells(cells, columns * 32);
     for entry in entries {
-        let span = entry.span();
-        widen(cells, span.first * 32 + span.last, span.width);
+        widen(cells, entry.first * 32 + entry.last, entry.width);
     }
 }
 
 impl<'a, E: Extent> SpanTable<'a, E> {
     // Forgets what was noted, notes these entries and merges: the width of each column, nothing for a void one.
-    pub fn settle<R: Spanned<E>>(
+    pub fn settle(
         &mut self,
-        entries: &[R],
+        entries: &[Entry<E>],
         gaps: &[i64],
         widths: &mut [Option<E>],
     ) -> Result<(), Misfit>
-        ensures answer { result ≡ unless (settle_fault self.old.columns (length self.old.cells.now) (length widths.old) (length gaps.now) (map R.Spanned.entry entries.now)) tt }
+        ensures answer { result ≡ unless (settle_fault self.old.columns (length self.old.cells.now) (length widths.old) (length gaps.now) entries.now) tt }
         ensures columns { self.new.columns ≡ self.old.columns }
         ensures room { length self.new.cells.now ≡ length self.old.cells.now }
-        ensures tabled { is_ok result ≡ true → Tabled count num self.old.columns self.new.cells.now (map R.Spanned.entry entries.now) }
-        ensures settled { is_ok result ≡ true → (k : ℕ) → k < count → TameOn num k (map R.Spanned.entry entries.now) gaps.now →
-            SettledOn num entered k (map R.Spanned.entry entries.now) gaps.now self.old.columns widths.new }
+        ensures tabled { is_ok result ≡ true → Tabled count num self.old.columns self.new.cells.now entries.now }
+        ensures settled { is_ok result ≡ true → (k : ℕ) → k < count → TameOn num k entries.now gaps.now →
+            SettledOn num entered k entries.now gaps.now self.old.columns widths.new }
         ensures rest { (j : ℕ) → self.old.columns ≤ j → slice_index_or widths.new j None ≡ slice_index_or widths.old j None }
         ensures refused { is_ok result ≡ false → (widths.new ≡ widths.old) × (self.new.cells.now ≡ self.old.cells.now) }
     {

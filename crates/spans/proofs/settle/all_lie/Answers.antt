@@ -1,23 +1,16 @@
-use Rattle.std.proofs.Common.{◌≡◌, map, sym, ap, ◌∙◌, arith, rules}
-use Rattle.std.proofs.lemmas.List.{drop_all, length-map}
+use Rattle.std.proofs.Common.{◌≡◌, true, false, sym, ap, ◌∙◌, arith, rules}
+use Rattle.std.proofs.lemmas.List.{drop_all}
 use Rattle.spans.specs.Refusals.{all_lie}
-use Rattle.spans.proofs.Refused.{all_lie-more, all_lie-stop, spanned-at}
+use Rattle.spans.proofs.Refused.{all_lie-more, all_lie-stop}
 use Rattle.spans.proofs.settle.all_lie.Goals as goal
 
 pub returns-then-not-lies : goal.returns-then-not-lies
 returns-then-not-lies g c =
-    let es = map g.R.Spanned.entry c.args.entries.now in
-    let at = spanned-at g.R.Spanned.entry c.args.entries.now c.loop-entry.entry-index c.entry-item.result c.span.result c.loop-entry-test.true c.entry-item.is c.span.ensures in
-    sym (sym c.loop-entry.invariant ∙ all_lie-stop c.args.columns es c.loop-entry.entry-index c.span.result at.0 at.1 (sym c.if-not-lies.ensures))
+    sym (sym c.loop-entry.invariant ∙ all_lie-stop c.args.columns c.args.entries.now c.loop-entry.entry-index c.entry-item.result c.loop-entry-test.true c.entry-item.is (sym c.if-not-lies.ensures))
 
 pub loop-entry-preserved : goal.loop-entry-preserved
 loop-entry-preserved g c =
-    let es = map g.R.Spanned.entry c.args.entries.now in
-    let at = spanned-at g.R.Spanned.entry c.args.entries.now c.loop-entry.entry-index c.entry-item.result c.span.result c.loop-entry-test.true c.entry-item.is c.span.ensures in
-    all_lie-more c.args.columns es c.loop-entry.entry-index c.span.result at.0 at.1 (sym c.if-not-lies.ensures) ∙ c.loop-entry.invariant
+    all_lie-more c.args.columns c.args.entries.now c.loop-entry.entry-index c.entry-item.result c.loop-entry-test.true c.entry-item.is (sym c.if-not-lies.ensures) ∙ c.loop-entry.invariant
 
 pub returns : goal.returns
-returns g c =
-    let es = map g.R.Spanned.entry c.args.entries.now in
-    let l = length-map c.args.entries.now g.R.Spanned.entry in
-    sym (sym c.loop-entry.invariant ∙ ap (all_lie c.args.columns) (drop_all c.loop-entry.entry-index es (omega arith)))
+returns g c = sym (sym c.loop-entry.invariant ∙ ap (all_lie c.args.columns) (drop_all c.loop-entry.entry-index c.args.entries.now (omega arith)))

@@ -1,4 +1,4 @@
-use Rattle.std.proofs.Common.{◌≡◌, true, cond, map, length, is_ok, Some, None, Ok, sym, ap, ◌∙◌, rules}
+use Rattle.std.proofs.Common.{◌≡◌, true, cond, length, is_ok, Some, None, Ok, sym, ap, ◌∙◌, rules}
 use Rattle.std.proofs.lemmas.Bool.{true≢false}
 use Rattle.spans.specs.declared.table.Misfit.TheVariants.{Span}
 use Rattle.spans.specs.Refusals.{merge_fault, or_else, unless, all_lie}
@@ -10,14 +10,14 @@ note-entries-requires g c =
     let t = c.args.self.now in
     let free : merge_fault t.columns (length t.cells.now) (length c.args.widths.now) (length c.args.gaps.now) ≡ None = sym c.merge-fault.ensures ∙ c.in-default.is in
     let fits : Fits t.columns (length t.cells.now) = merge-fits t.columns (length t.cells.now) (length c.args.widths.now) (length c.args.gaps.now) free in
-    (fits.few, (fits.room_for, all_lie-proper t.columns (map g.R.Spanned.entry c.args.entries.now) (sym c.if-not-all-lie.ensures)))
+    (fits.few, (fits.room_for, all_lie-proper t.columns c.args.entries.now (sym c.if-not-all-lie.ensures)))
 
 pub returns : goal.returns
 returns g c =
     let t = c.args.self.now in
     let ws = c.args.widths.now in
     let gaps = c.args.gaps.now in
-    let es = map g.R.Spanned.entry c.args.entries.now in
+    let es = c.args.entries.now in
     let free : merge_fault t.columns (length t.cells.now) (length ws) (length gaps) ≡ None = sym c.merge-fault.ensures ∙ c.in-default.is in
     let lies : all_lie t.columns es ≡ true = sym c.if-not-all-lie.ensures in
     let kept : length c.note-entries.new.cells ≡ length t.cells.now = search rules in
