@@ -9,7 +9,7 @@ import os
 import re
 import sys
 
-OWN = ["in_default", "overflow_add", "overflow_sub", "overflow_mul", "overflow_neg", "i_in_bounds", "slice_known"]
+OWN = ["in_default", "in_ok", "in_err", "in_some", "in_none", "from_residual", "overflow_add", "overflow_sub", "overflow_mul", "overflow_neg", "i_in_bounds", "slice_known"]
 WORD = re.compile(r"[A-Za-z_][\w'\-]*", re.ASCII)
 
 

@@ -23,10 +23,10 @@ fn edges_fault(columns: usize, widths: usize, gaps: usize, edges: usize) -> Opti
 // Each column's right edge is the left edge and its width; the next left edge lies behind the gap.
 fn place_edges<E: Extent>(columns: usize, gaps: &[i64], widths: &[Option<E>], edges: &mut [E]) -> E
     requires { (columns ≤ length widths.now) × ((columns < length gaps.now) × (columns ≤ length edges.old)) }
-    ensures total { (k : ℕ) → k < count → SizedOn num entered k gaps.now columns widths.now →
-        num result k ≡ natural (starting entered k gaps.now) (column num k widths.now) (after entered k gaps.now) columns }
-    ensures placed { (k : ℕ) → k < count → SizedOn num entered k gaps.now columns widths.now → (j : ℕ) (d : E) → j < columns →
-        num (slice_index_or edges.new j d) k ≡ edge (starting entered k gaps.now) (column num k widths.now) (after entered k gaps.now) j }
+    ensures total { (k : ℕ) → k < E.count → SizedOn E.num E.entered k gaps.now columns widths.now →
+        E.num result k ≡ natural (starting E.entered k gaps.now) (column E.num k widths.now) (after E.entered k gaps.now) columns }
+    ensures placed { (k : ℕ) → k < E.count → SizedOn E.num E.entered k gaps.now columns widths.now → (j : ℕ) (d : E) → j < columns →
+        E.num (slice_index_or edges.new j d) k ≡ edge (starting E.entered k gaps.now) (column E.num k widths.now) (after E.entered k gaps.now) j }
     ensures rest { (j : ℕ) (d : E) → columns ≤ j → slice_index_or edges.new j d ≡ slice_index_or edges.old j d }
 {
     let mut left = E::enter(gaps[0]);
@@ -47,10 +47,10 @@ pub fn natural_edges<E: Extent>(
     edges: &mut [E],
 ) -> Result<E, Misfit>
     ensures answer { Refusing (edges_fault columns (length widths.now) (length gaps.now) (length edges.old)) result }
-    ensures total { IfOk result (λ n. (k : ℕ) → k < count → SizedOn num entered k gaps.now columns widths.now →
-        num n k ≡ natural (starting entered k gaps.now) (column num k widths.now) (after entered k gaps.now) columns) }
-    ensures placed { is_ok result ≡ true → (k : ℕ) → k < count → SizedOn num entered k gaps.now columns widths.now → (j : ℕ) (d : E) → j < columns →
-        num (slice_index_or edges.new j d) k ≡ edge (starting entered k gaps.now) (column num k widths.now) (after entered k gaps.now) j }
+    ensures total { IfOk result (λ n. (k : ℕ) → k < E.count → SizedOn E.num E.entered k gaps.now columns widths.now →
+        E.num n k ≡ natural (starting E.entered k gaps.now) (column E.num k widths.now) (after E.entered k gaps.now) columns) }
+    ensures placed { is_ok result ≡ true → (k : ℕ) → k < E.count → SizedOn E.num E.entered k gaps.now columns widths.now → (j : ℕ) (d : E) → j < columns →
+        E.num (slice_index_or edges.new j d) k ≡ edge (starting E.entered k gaps.now) (column E.num k widths.now) (after E.entered k gaps.now) j }
     ensures rest { (j : ℕ) (d : E) → columns ≤ j → slice_index_or edges.new j d ≡ slice_index_or edges.old j d }
     ensures refused { is_ok result ≡ false → edges.new ≡ edges.old }
 {

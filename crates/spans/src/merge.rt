@@ -65,8 +65,8 @@ fn carry_row<E: Extent>(cells: &[Option<E>], columns: usize, q: usize, by: E, ro
     requires { (columns ≤ 32) × ((columns * 32 ≤ length cells.now) × ((columns ≤ length row.old) × (q < columns))) }
     ensures before { (j : ℕ) → j ≤ q → slice_index_or row.new j None ≡ slice_index_or row.old j None }
     ensures rest { (j : ℕ) → columns ≤ j → slice_index_or row.new j None ≡ slice_index_or row.old j None }
-    ensures carried { (k j : ℕ) → k < count → q < j → j < columns → Near (size (seen num k (slice_index_or row.old j None))) → Near (num by k) →
-        seen num k (slice_index_or row.new j None) ≡ join (seen num k (cell cells.now (q + 1) j)) (less (seen num k (slice_index_or row.old j None)) (num by k)) }
+    ensures carried { (k j : ℕ) → k < E.count → q < j → j < columns → Near (size (seen E.num k (slice_index_or row.old j None))) → Near (E.num by k) →
+        seen E.num k (slice_index_or row.new j None) ≡ join (seen E.num k (cell cells.now (q + 1) j)) (less (seen E.num k (slice_index_or row.old j None)) (E.num by k)) }
 {
     for j in q + 1..columns {
         row[j] = joined(cell_at(cells, (q + 1) * 32 + j), lessened(row[j], by));
@@ -81,8 +81,8 @@ fn merge_rows<E: Extent>(
     widths: &mut [Option<E>],
 )
     requires { (columns ≤ 32) × ((columns * 32 ≤ length cells.now) × ((columns ≤ length widths.old) × (columns < length gaps.now))) }
-    ensures merged { (es : List (Noted E)) → Tabled count num columns cells.now es → (k j : ℕ) → k < count → TameOn num k es gaps.now → j < columns →
-        column num k widths.new j ≡ width (widest (on_side num k es)) (after entered k gaps.now) j }
+    ensures merged { (es : List (Noted E)) → Tabled E.count E.num columns cells.now es → (k j : ℕ) → k < E.count → TameOn E.num k es gaps.now → j < columns →
+        column E.num k widths.new j ≡ width (widest (on_side E.num k es)) (after E.entered k gaps.now) j }
     ensures rest { (j : ℕ) → columns ≤ j → slice_index_or widths.new j None ≡ slice_index_or widths.old j None }
 {
     start_row(cells, columns, widths);
@@ -111,8 +111,8 @@ impl<'a, E: Extent> SpanTable<'a, E> {
     pub fn carry(&self, q: usize, by: E, row: &mut [Option<E>]) -> Result<(), Misfit>
         ensures answer { result ≡ unless (turn_fault self.now.columns (length self.now.cells.now) (length row.old) q) tt }
         ensures before { (j : ℕ) → j ≤ q → slice_index_or row.new j None ≡ slice_index_or row.old j None }
-        ensures carried { is_ok result ≡ true → (k j : ℕ) → k < count → q < j → j < self.now.columns → Near (size (seen num k (slice_index_or row.old j None))) → Near (num by k) →
-            seen num k (slice_index_or row.new j None) ≡ join (seen num k (cell self.now.cells.now (q + 1) j)) (less (seen num k (slice_index_or row.old j None)) (num by k)) }
+        ensures carried { is_ok result ≡ true → (k j : ℕ) → k < E.count → q < j → j < self.now.columns → Near (size (seen E.num k (slice_index_or row.old j None))) → Near (E.num by k) →
+            seen E.num k (slice_index_or row.new j None) ≡ join (seen E.num k (cell self.now.cells.now (q + 1) j)) (less (seen E.num k (slice_index_or row.old j None)) (E.num by k)) }
         ensures rest { (j : ℕ) → self.now.columns ≤ j → slice_index_or row.new j None ≡ slice_index_or row.old j None }
         ensures refused { is_ok result ≡ false → row.new ≡ row.old }
     {
@@ -126,8 +126,8 @@ impl<'a, E: Extent> SpanTable<'a, E> {
     // The width of each column, nothing for a void one; `gaps` is the starting gap and the gap after each column.
     pub fn merge(&self, gaps: &[i64], widths: &mut [Option<E>]) -> Result<(), Misfit>
         ensures answer { result ≡ unless (merge_fault self.now.columns (length self.now.cells.now) (length widths.old) (length gaps.now)) tt }
-        ensures settled { is_ok result ≡ true → (es : List (Noted E)) → Tabled count num self.now.columns self.now.cells.now es → (k : ℕ) → k < count → TameOn num k es gaps.now →
-            SettledOn num entered k es gaps.now self.now.columns widths.new }
+        ensures settled { is_ok result ≡ true → (es : List (Noted E)) → Tabled E.count E.num self.now.columns self.now.cells.now es → (k : ℕ) → k < E.count → TameOn E.num k es gaps.now →
+            SettledOn E.num E.entered k es gaps.now self.now.columns widths.new }
         ensures rest { (j : ℕ) → self.now.columns ≤ j → slice_index_or widths.new j None ≡ slice_index_or widths.old j None }
         ensures refused { is_ok result ≡ false → widths.new ≡ widths.old }
     {

@@ -28,7 +28,7 @@ fn all_lie<E: Extent>(columns: usize, entries: &[Entry<E>]) -> bool
 // Forgets what the cells hold and notes these entries.
 fn note_entries<E: Extent>(cells: &mut [Option<E>], columns: usize, entries: &[Entry<E>])
     requires { (columns ≤ 32) × ((columns * 32 ≤ length cells.old) × (Proper columns entries.now)) }
-    ensures { Tabled count num columns cells.new entries.now }
+    ensures { Tabled E.count E.num columns cells.new entries.now }
 {
     empty_cells(cells, columns * 32);
     for entry in entries {
@@ -47,9 +47,9 @@ impl<'a, E: Extent> SpanTable<'a, E> {
         ensures answer { result ≡ unless (settle_fault self.old.columns (length self.old.cells.now) (length widths.old) (length gaps.now) entries.now) tt }
         ensures columns { self.new.columns ≡ self.old.columns }
         ensures room { length self.new.cells.now ≡ length self.old.cells.now }
-        ensures tabled { is_ok result ≡ true → Tabled count num self.old.columns self.new.cells.now entries.now }
-        ensures settled { is_ok result ≡ true → (k : ℕ) → k < count → TameOn num k entries.now gaps.now →
-            SettledOn num entered k entries.now gaps.now self.old.columns widths.new }
+        ensures tabled { is_ok result ≡ true → Tabled E.count E.num self.old.columns self.new.cells.now entries.now }
+        ensures settled { is_ok result ≡ true → (k : ℕ) → k < E.count → TameOn E.num k entries.now gaps.now →
+            SettledOn E.num E.entered k entries.now gaps.now self.old.columns widths.new }
         ensures rest { (j : ℕ) → self.old.columns ≤ j → slice_index_or widths.new j None ≡ slice_index_or widths.old j None }
         ensures refused { is_ok result ≡ false → (widths.new ≡ widths.old) × (self.new.cells.now ≡ self.old.cells.now) }
     {

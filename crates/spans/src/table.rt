@@ -80,7 +80,7 @@ pub(crate) fn empty_cells<E: Extent>(cells: &mut [Option<E>], upto: usize)
 // Joins a width into the cell at a place.
 pub(crate) fn widen<E: Extent>(cells: &mut [Option<E>], place: usize, width: E)
     requires { place < length cells.old }
-    ensures here { (k : ℕ) → k < count → seen num k (slice_index_or cells.new place None) ≡ join (seen num k (slice_index_or cells.old place None)) (Some (num width k)) }
+    ensures here { (k : ℕ) → k < E.count → seen E.num k (slice_index_or cells.new place None) ≡ join (seen E.num k (slice_index_or cells.old place None)) (Some (E.num width k)) }
     ensures others { (p : ℕ) → (p ≢ place) → slice_index_or cells.new p None ≡ slice_index_or cells.old p None }
 {
     cells[place] = joined(cells[place], Some(width));
@@ -92,7 +92,7 @@ impl<'a, E: Extent> SpanTable<'a, E> {
         ensures answer { result ≡ unless (table_fault self.old.columns (length self.old.cells.now)) tt }
         ensures columns { self.new.columns ≡ self.old.columns }
         ensures room { length self.new.cells.now ≡ length self.old.cells.now }
-        ensures empty { is_ok result ≡ true → Tabled count num self.old.columns self.new.cells.now [] }
+        ensures empty { is_ok result ≡ true → Tabled E.count E.num self.old.columns self.new.cells.now [] }
         ensures others { (p : ℕ) → self.old.columns * 32 ≤ p → slice_index_or self.new.cells.now p None ≡ slice_index_or self.old.cells.now p None }
         ensures refused { is_ok result ≡ false → self.new.cells.now ≡ self.old.cells.now }
     {
@@ -109,8 +109,8 @@ impl<'a, E: Extent> SpanTable<'a, E> {
         ensures answer { result ≡ unless (span_fault self.old.columns (length self.old.cells.now) entry.first entry.last) tt }
         ensures columns { self.new.columns ≡ self.old.columns }
         ensures room { length self.new.cells.now ≡ length self.old.cells.now }
-        ensures noted { (es : List (Noted E)) → Tabled count num self.old.columns self.old.cells.now es → Tabled count num self.old.columns self.new.cells.now (es ++ accepted result entry) }
-        ensures here { is_ok result ≡ true → (k : ℕ) → k < count → seen num k (cell self.new.cells.now entry.first entry.last) ≡ join (seen num k (cell self.old.cells.now entry.first entry.last)) (Some (num entry.width k)) }
+        ensures noted { (es : List (Noted E)) → Tabled E.count E.num self.old.columns self.old.cells.now es → Tabled E.count E.num self.old.columns self.new.cells.now (es ++ accepted result entry) }
+        ensures here { is_ok result ≡ true → (k : ℕ) → k < E.count → seen E.num k (cell self.new.cells.now entry.first entry.last) ≡ join (seen E.num k (cell self.old.cells.now entry.first entry.last)) (Some (E.num entry.width k)) }
         ensures others { (p : ℕ) → (p ≢ entry.first * 32 + entry.last) → slice_index_or self.new.cells.now p None ≡ slice_index_or self.old.cells.now p None }
         ensures refused { is_ok result ≡ false → self.new.cells.now ≡ self.old.cells.now }
     {

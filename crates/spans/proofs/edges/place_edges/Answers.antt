@@ -48,17 +48,17 @@ loop-j-preserved g c =
     let right_is : (k : ℕ) → k < m.count → SizedOn m.num m.entered k gaps c.args.columns ws → m.num c.sum-right.result k ≡ edge (starting m.entered k gaps) (column m.num k ws) (after m.entered k gaps) j =
     λ k kc sized.
     let a = c.loop-j.invariant.0 k kc sized in
-    let b : m.num c.width-counted.result k ≡ size (column m.num k ws j) = c.width-counted.ensures k kc ∙ ap (λ o. size (seen m.num k o)) is in
+    let b : m.num c.width_counted.result k ≡ size (column m.num k ws j) = c.width_counted.ensures k kc ∙ ap (λ o. size (seen m.num k o)) is in
     c.sum-right.ensures k kc (subst Near (sym a) (sized.sums j (omega arith))) (subst Near (sym b) (sized.widths j (omega arith)))
-    ∙ ap (λ z. z +ℤ m.num c.width-counted.result k) a ∙ ap (λ z. natural (starting m.entered k gaps) (column m.num k ws) (after m.entered k gaps) j +ℤ z) b
+    ∙ ap (λ z. z +ℤ m.num c.width_counted.result k) a ∙ ap (λ z. natural (starting m.entered k gaps) (column m.num k ws) (after m.entered k gaps) j +ℤ z) b
     ∙ edge-from (starting m.entered k gaps) (column m.num k ws) (after m.entered k gaps) j in (
       (λ k kc sized.
           let a = right_is k kc sized in
           let e : m.num c.enter.result k ≡ after m.entered k gaps j = c.enter.ensures k kc ∙ ap (m.entered k) (to_z-of_z w64 gap fits) in
-          let b : m.num c.gap-counted.result k ≡ counted (column m.num k ws j) (after m.entered k gaps j) =
-          c.gap-counted.ensures k kc ∙ ap (λ o. counted (seen m.num k o) (m.num c.enter.result k)) is ∙ ap (counted (column m.num k ws j)) e in
+          let b : m.num c.gap_counted.result k ≡ counted (column m.num k ws j) (after m.entered k gaps j) =
+          c.gap_counted.ensures k kc ∙ ap (λ o. counted (seen m.num k o) (m.num c.enter.result k)) is ∙ ap (counted (column m.num k ws j)) e in
           c.sum-left.ensures k kc (subst Near (sym a) (sized.edges j (omega arith))) (subst Near (sym b) (near-counted (column m.num k ws j) (after m.entered k gaps j) (sized.gaps j)))
-          ∙ ap (λ z. z +ℤ m.num c.gap-counted.result k) a ∙ ap (λ z. edge (starting m.entered k gaps) (column m.num k ws) (after m.entered k gaps) j +ℤ z) b
+          ∙ ap (λ z. z +ℤ m.num c.gap_counted.result k) a ∙ ap (λ z. edge (starting m.entered k gaps) (column m.num k ws) (after m.entered k gaps) j +ℤ z) b
           ∙ natural-more (starting m.entered k gaps) (column m.num k ws) (after m.entered k gaps) j),
       (λ k kc sized i d lt. ⊎_elim
           (λ here. subst (λ n. m.num (get_or c.store.new.slice n d) k ≡ edge (starting m.entered k gaps) (column m.num k ws) (after m.entered k gaps) n) (sym here)

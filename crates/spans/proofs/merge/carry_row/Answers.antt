@@ -17,7 +17,7 @@ loop-j-preserved g c =
     let here : get_or (set ws j x) j None ≡ x = get_or-set_same ws j x None (omega arith) in
     let was : c.index-row-j.result ≡ get_or old j None =
     get_or_read ws j c.index-row-j.result (omega arith) c.index-row-j.is None ∙ c.loop-j.invariant.1 j (omega arith) in
-    let at : c.cell-at.result ≡ cell c.args.cells.now (c.args.q + 1) j = c.cell-at.ensures in (
+    let at : c.cell_at.result ≡ cell c.args.cells.now (c.args.q + 1) j = c.cell_at.ensures in (
       (λ i h. other i (omega arith) ∙ c.loop-j.invariant.0 i h),
       (λ i h. other i (omega arith) ∙ c.loop-j.invariant.1 i (omega arith)),
       (λ k i kc qi ij near by. ⊎_elim

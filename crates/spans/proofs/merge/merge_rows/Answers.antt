@@ -21,7 +21,7 @@ loop-q-init g c =
       (λ es tabled k i kc tame lt.
           let W : ℕ → ℕ → Option ℤ = widest (on_side m.num k es) in
           let e : ℕ → ℤ = after m.entered k c.args.gaps.now in
-          ap (seen m.num k) (c.start-row.ensures.here i lt ∙ sym (ap (λ n. get_or table n None) (zero-add i)))
+          ap (seen m.num k) (c.start_row.ensures.here i lt ∙ sym (ap (λ n. get_or table n None) (zero-add i)))
           ∙ tabled.widths k 0 i kc (omega arith) lt ∙ sym (row-start W e i)),
       search rules,
     )
@@ -51,14 +51,14 @@ loop-q-preserved g c =
           ⊎_elim
           (λ after.
           let was : column m.num k ws i ≡ row W e q i = c.loop-q.invariant.0 es tabled k i kc tame (omega arith) ∙ ap (λ n. row W e n i) (omega arith) in
-          let then = c.carry-row.ensures.carried k i kc after (omega arith) (subst (λ o. Near (size o)) (sym was) (row_near W e small skips q i below)) (subst Near (sym by-is) (step-near W e small skips q below)) in
+          let then = c.carry_row.ensures.carried k i kc after (omega arith) (subst (λ o. Near (size o)) (sym was) (row_near W e small skips q i below)) (subst Near (sym by-is) (step-near W e small skips q below)) in
           then ∙ ap (λ r. join (seen m.num k (cell table (q + 1) i)) (less r (m.num c.advance-by.result k))) was
           ∙ ap (λ z. join (seen m.num k (cell table (q + 1) i)) (less (row W e q i) z)) by-is
           ∙ ap (λ o. join o (less (row W e q i) (step (row W e q q) (e q)))) (tabled.widths k (q + 1) i kc (omega arith) lt)
           ∙ sym (row-turn W e q i) ∙ ap (λ n. row W e n i) (omega arith))
-          (λ before. ap (seen m.num k) (c.carry-row.ensures.before i before) ∙ c.loop-q.invariant.0 es tabled k i kc tame (omega arith) ∙ ap (λ n. row W e n i) (omega arith))
+          (λ before. ap (seen m.num k) (c.carry_row.ensures.before i before) ∙ c.loop-q.invariant.0 es tabled k i kc tame (omega arith) ∙ ap (λ n. row W e n i) (omega arith))
           (cases_lt q i)),
-      (λ j h. c.carry-row.ensures.rest j h ∙ c.loop-q.invariant.1 j h),
+      (λ j h. c.carry_row.ensures.rest j h ∙ c.loop-q.invariant.1 j h),
     )
 
 pub returns : goal.returns
@@ -70,5 +70,5 @@ returns g c =
           let e : ℕ → ℤ = after m.entered k c.args.gaps.now in
           let at : min c.loop-q.q j ≡ j = omega arith in
           c.loop-q.invariant.0 es tabled k j kc tame lt ∙ ap (λ n. row W e n j) at;
-      rest = λ j h. c.loop-q.invariant.1 j h ∙ c.start-row.ensures.rest j h;
+      rest = λ j h. c.loop-q.invariant.1 j h ∙ c.start_row.ensures.rest j h;
     }

@@ -6,14 +6,14 @@ use Rattle.spans.proofs.Tabling.{tabled_none, tabled_push}
 use Rattle.spans.proofs.settle.note_entries.Goals as goal
 
 pub loop-entry-init : goal.loop-entry-init
-loop-entry-init g c = tabled_none g.E.Extent.count g.E.Extent.num c.args.columns c.empty-cells.new.cells c.requires.0 c.empty-cells.ensures.emptied
+loop-entry-init g c = tabled_none g.E.Extent.count g.E.Extent.num c.args.columns c.empty_cells.new.cells c.requires.0 c.empty_cells.ensures.emptied
 
-pub overflow-mul-entry : goal.overflow-mul-entry
-overflow-mul-entry g c =
+pub overflow_mul-entry : goal.overflow_mul-entry
+overflow_mul-entry g c =
     let l = proper-at c.args.columns c.args.entries.now c.loop-entry.entry-index c.entry-item.result c.loop-entry-test.true c.entry-item.is c.requires.1.1 in search rules
 
-pub overflow-add-entry : goal.overflow-add-entry
-overflow-add-entry g c =
+pub overflow_add-entry : goal.overflow_add-entry
+overflow_add-entry g c =
     let l = proper-at c.args.columns c.args.entries.now c.loop-entry.entry-index c.entry-item.result c.loop-entry-test.true c.entry-item.is c.requires.1.1 in search rules
 
 pub widen-requires : goal.widen-requires

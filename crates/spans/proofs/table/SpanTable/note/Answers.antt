@@ -9,7 +9,7 @@ returns g c =
     let m = g.E.Extent in
     let t = c.args.self.now in
     let e = c.args.entry in
-    let free : span_fault t.columns (length t.cells.now) e.first e.last ≡ None = sym c.span-fault.ensures ∙ c.in-default.is in
+    let free : span_fault t.columns (length t.cells.now) e.first e.last ≡ None = sym c.span_fault.ensures ∙ c.in_default.is in
     let lies : Lies t.columns (length t.cells.now) e.first e.last = span-lies t.columns (length t.cells.now) e.first e.last free in
     record {
       answer = sym (ap (λ o. unless o tt) free);

@@ -5,12 +5,12 @@ use Rattle.spans.specs.Refusals.{merge_fault, or_else, unless, all_lie}
 use Rattle.spans.proofs.Refused.{Fits, merge-fits, all_lie-proper}
 use Rattle.spans.proofs.table.SpanTable.settle.Goals as goal
 
-pub note-entries-requires : goal.note-entries-requires
-note-entries-requires g c =
+pub note_entries-requires : goal.note_entries-requires
+note_entries-requires g c =
     let t = c.args.self.now in
-    let free : merge_fault t.columns (length t.cells.now) (length c.args.widths.now) (length c.args.gaps.now) ≡ None = sym c.merge-fault.ensures ∙ c.in-default.is in
+    let free : merge_fault t.columns (length t.cells.now) (length c.args.widths.now) (length c.args.gaps.now) ≡ None = sym c.merge_fault.ensures ∙ c.in_default.is in
     let fits : Fits t.columns (length t.cells.now) = merge-fits t.columns (length t.cells.now) (length c.args.widths.now) (length c.args.gaps.now) free in
-    (fits.few, (fits.room_for, all_lie-proper t.columns c.args.entries.now (sym c.if-not-all-lie.ensures)))
+    (fits.few, (fits.room_for, all_lie-proper t.columns c.args.entries.now (sym c.if-not-all_lie.ensures)))
 
 pub returns : goal.returns
 returns g c =
@@ -18,17 +18,17 @@ returns g c =
     let ws = c.args.widths.now in
     let gaps = c.args.gaps.now in
     let es = c.args.entries.now in
-    let free : merge_fault t.columns (length t.cells.now) (length ws) (length gaps) ≡ None = sym c.merge-fault.ensures ∙ c.in-default.is in
-    let lies : all_lie t.columns es ≡ true = sym c.if-not-all-lie.ensures in
-    let kept : length c.note-entries.new.cells ≡ length t.cells.now = search rules in
+    let free : merge_fault t.columns (length t.cells.now) (length ws) (length gaps) ≡ None = sym c.merge_fault.ensures ∙ c.in_default.is in
+    let lies : all_lie t.columns es ≡ true = sym c.if-not-all_lie.ensures in
+    let kept : length c.note_entries.new.cells ≡ length t.cells.now = search rules in
     let ok : c.merge.result ≡ Ok tt =
     c.merge.ensures.answer ∙ ap (λ n. unless (merge_fault t.columns n (length ws) (length gaps)) tt) kept ∙ ap (λ o. unless o tt) free in
     record {
       answer = ok ∙ sym (ap (λ o. unless (or_else o (cond (all_lie t.columns es) None (Some Span))) tt) free ∙ ap (λ b. unless (cond b None (Some Span)) tt) lies);
       columns = search rules;
       room = kept;
-      tabled = λ _. c.note-entries.ensures;
-      settled = λ h. c.merge.ensures.settled h es c.note-entries.ensures;
+      tabled = λ _. c.note_entries.ensures;
+      settled = λ h. c.merge.ensures.settled h es c.note_entries.ensures;
       rest = c.merge.ensures.rest;
       refused = λ h. absurd (true≢false (sym (ap is_ok ok) ∙ h));
     }
