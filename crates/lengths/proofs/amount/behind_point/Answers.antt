@@ -3,4 +3,4 @@ use Rattle.lengths.proofs.Spells.{part-is}
 use Rattle.lengths.proofs.amount.behind_point.Goals as goal
 
 pub returns : goal.returns
-returns c = record { is = search (rules, part-is); small = (c.round-decimals.ensures.small, omega arith) }
+returns c = record { is = search (rules, part-is); small = (c.round_decimals.ensures.small, omega arith) }

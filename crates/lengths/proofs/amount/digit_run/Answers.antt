@@ -18,8 +18,8 @@ returns c =
       digits = subst (λ (n : ℕ). Digits (take n c.args.s.now)) (sym e) (run-digits c.args.s.now);
     }
 
-pub returns-then-not-is-digit : goal.returns-then-not-is-digit
-returns-then-not-is-digit c =
+pub returns-then-not-is_digit : goal.returns-then-not-is_digit
+returns-then-not-is_digit c =
     let e : c.loop-i.i ≡ prefix_len digit_byte c.args.s.now = search (rules, prefix_len-drop_no) in
     record {
       is = e;

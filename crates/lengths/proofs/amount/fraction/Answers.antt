@@ -10,9 +10,9 @@ returns-in-46 c =
     let some : 0 < length c.args.s.now = search rules in
     let point : get_or c.args.s.now 0 0 ≡ 46 = search rules in
     record {
-      is = c.behind-point.ensures.is
+      is = c.behind_point.ensures.is
           ∙ sym (ap fraction_of (first_rest c.args.s.now 0 some) ∙ cond-true _ _ _ (eq-eqb _ 46 point));
-      small = found_weaker c.behind-point.result _ _
+      small = found_weaker c.behind_point.result _ _
           (λ a h. (h.0, omega (arith, length-behind c.args.s.now some, h.1)))
-          c.behind-point.ensures.small;
+          c.behind_point.ensures.small;
     }

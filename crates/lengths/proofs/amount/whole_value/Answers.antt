@@ -4,8 +4,8 @@ use Rattle.std.proofs.lemmas.List.{take_all}
 use Rattle.lengths.proofs.Runs.{digit_at, numeral-more}
 use Rattle.lengths.proofs.amount.whole_value.Goals as goal
 
-pub overflow-sub-n : goal.overflow-sub-n
-overflow-sub-n c = search (rules, digit_at)
+pub overflow_sub-n : goal.overflow_sub-n
+overflow_sub-n c = search (rules, digit_at)
 
 pub loop-d-preserved : goal.loop-d-preserved
 loop-d-preserved c =

@@ -12,53 +12,53 @@ use Rattle.lengths.proofs.glue.glue_at.Goals as goal
 
 pub of-gap-requires : goal.of-gap-requires
 of-gap-requires c =
-    let l = c.in-ok-length.length in
-    let s = c.in-ok-stretch.stretch in
-    let told = c.in-ok-length.ensures.within in
-    let more = c.in-ok-stretch.ensures.inside in
+    let l = c.in_ok-length.length in
+    let s = c.in_ok-stretch.stretch in
+    let told = c.in_ok-length.ensures.within in
+    let more = c.in_ok-stretch.ensures.inside in
     let natural : to_z w64 (of_z w64 l.sp) ≡ l.sp = omega (arith, ints, told.0, told.1) in
     let stretch : to_z w64 (of_z w64 s.size) ≡ s.size = omega (arith, ints, more.0, more.1) in
     (natural-fits l.sp (to_z w64 (of_z w64 l.sp)) natural told.0 told.1, stretch-fits s.size (to_z w64 (of_z w64 s.size)) stretch more.0 more.1)
 
-pub returns-in-err-length : goal.returns-in-err-length
-returns-in-err-length c =
-    let p = err_from_is_err_and c.from-residual.result c.from-residual.ensures.1 in
-    let e = glue-refused c.args.text.now c.args.place c.in-err-length.field-0.0 c.in-err-length.ensures.answer in
+pub returns-in_err-length : goal.returns-in_err-length
+returns-in_err-length c =
+    let p = err_from_is_err_and c.from_residual.result c.from_residual.ensures.1 in
+    let e = glue-refused c.args.text.now c.args.place c.in_err-length.field-0.0 c.in_err-length.ensures.answer in
     rw (p.1, p.2) (record { answer = e; within = tt; law = reads-glue c.args.text.now c.args.place _ e })
 
-pub returns-in-err-stretch : goal.returns-in-err-stretch
-returns-in-err-stretch c =
-    let p = err_from_is_err_and c.from-residual-in-err-stretch.result c.from-residual-in-err-stretch.ensures.1 in
-    let l = c.in-ok-length.length in
+pub returns-in_err-stretch : goal.returns-in_err-stretch
+returns-in_err-stretch c =
+    let p = err_from_is_err_and c.from_residual-in_err-stretch.result c.from_residual-in_err-stretch.ensures.1 in
+    let l = c.in_ok-length.length in
     let text = c.args.text.now in
-    let e = glue-short text c.args.place l c.in-ok-length.ensures.answer c.spaces-end.result c.spaces-end.ensures.answer
+    let e = glue-short text c.args.place l c.in_ok-length.ensures.answer c.spaces_end.result c.spaces_end.ensures.answer
     (c.if-begins.ensures.is ∙ ap (begins_with (codes "plus")) (take_rest text l.end))
-    c.in-err-stretch.field-0.0 c.in-err-stretch.ensures.is in
+    c.in_err-stretch.field-0.0 c.in_err-stretch.ensures.is in
     rw (p.1, p.2) (record { answer = e; within = tt; law = reads-glue text c.args.place _ e })
 
-pub returns-in-ok-stretch : goal.returns-in-ok-stretch
-returns-in-ok-stretch c =
-    let l = c.in-ok-length.length in
-    let s = c.in-ok-stretch.stretch in
+pub returns-in_ok-stretch : goal.returns-in_ok-stretch
+returns-in_ok-stretch c =
+    let l = c.in_ok-length.length in
+    let s = c.in_ok-stretch.stretch in
     let text = c.args.text.now in
-    let told = c.in-ok-length.ensures.within in
-    let more = c.in-ok-stretch.ensures.inside in
+    let told = c.in_ok-length.ensures.within in
+    let more = c.in_ok-stretch.ensures.inside in
     let natural : to_z w64 (of_z w64 l.sp) ≡ l.sp = omega (arith, ints, told.0, told.1) in
     let stretch : to_z w64 (of_z w64 s.size) ≡ s.size = omega (arith, ints, more.0, more.1) in
     let same = c.of-gap.ensures.answer ∙ ap (λ (z : ℤ). parts z (to_z w64 (of_z w64 s.size)) s.order) natural ∙ ap (λ (z : ℤ). parts l.sp z s.order) stretch in
-    let e = glue-stretched text c.args.place l c.in-ok-length.ensures.answer c.spaces-end.result c.spaces-end.ensures.answer
+    let e = glue-stretched text c.args.place l c.in_ok-length.ensures.answer c.spaces_end.result c.spaces_end.ensures.answer
     (c.if-begins.ensures.is ∙ ap (begins_with (codes "plus")) (take_rest text l.end))
-    s _ same c.in-ok-stretch.ensures.is in
+    s _ same c.in_ok-stretch.ensures.is in
     let inside = glue-within text c.args.place _ (sym e) in
     record { answer = e; within = (inside.1, inside.2); law = reads-glue text c.args.place _ e }
 
 pub returns-else-begins : goal.returns-else-begins
 returns-else-begins c =
-    let l = c.in-ok-length.length in
+    let l = c.in_ok-length.length in
     let text = c.args.text.now in
-    let told = c.in-ok-length.ensures.within in
+    let told = c.in_ok-length.ensures.within in
     let natural : to_z w64 (of_z w64 l.sp) ≡ l.sp = omega (arith, ints, told.0, told.1) in
-    let e = glue-plain text c.args.place l c.in-ok-length.ensures.answer
+    let e = glue-plain text c.args.place l c.in_ok-length.ensures.answer
     _ (c.of-gap-else-begins.ensures.answer ∙ ap (λ (z : ℤ). parts z (pos 0) Points) natural)
     (c.if-begins.ensures.is ∙ ap (begins_with (codes "plus")) (take_rest text l.end)) in
     let inside = glue-within text c.args.place _ (sym e) in

@@ -2,7 +2,7 @@ use Rattle.std.proofs.Common.{◌≡◌, pos, Err, ap, ◌∙◌, arith, w64, to
 use Rattle.std.proofs.lemmas.Int.{ints}
 use Rattle.lengths.proofs.Places.{length_rest, stretch-there, stretch-none, stretch-past}
 use Rattle.lengths.proofs.glue.stretch_at.Goals as goal
-use Rattle.lengths.proofs.glue.stretch_at.Goals.{then-place-text+in-default, else-place-text}
+use Rattle.lengths.proofs.glue.stretch_at.Goals.{then-place-text+in_default, else-place-text}
 
 pub returns-in-Some : goal.returns-in-Some
 returns-in-Some c =
@@ -20,7 +20,7 @@ returns c =
     record {
       is = ap Err c.missing.ensures
           ∙ elim c.if-place-text.branch [
-            | then-place-text+in-default w ↦ stretch-none c.args.text.now c.args.place w.in-default.ensures.is
+            | then-place-text+in_default w ↦ stretch-none c.args.text.now c.args.place w.in_default.ensures.is
             | else-place-text w ↦ stretch-past c.args.text.now c.args.place w.if-place-text.false
           ];
       inside = tt;

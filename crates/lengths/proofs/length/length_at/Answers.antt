@@ -5,7 +5,7 @@ use Rattle.lengths.proofs.LengthLaws.{reads-length}
 use Rattle.lengths.proofs.Places.{length_at-is, length_none, length-past}
 use Rattle.lengths.proofs.Within.{length-within}
 use Rattle.lengths.proofs.length.length_at.Goals as goal
-use Rattle.lengths.proofs.length.length_at.Goals.{then-place-text+in-default, else-place-text}
+use Rattle.lengths.proofs.length.length_at.Goals.{then-place-text+in_default, else-place-text}
 
 pub returns-in-Some : goal.returns-in-Some
 returns-in-Some c =
@@ -26,7 +26,7 @@ returns c =
     let text = c.args.text.now in
     let place = c.args.place in
     let none : Err (missing_at text place) ≡ length_at text place = elim c.if-place-text.branch [
-      | then-place-text+in-default w ↦ length_none text place w.in-default.ensures.is
+      | then-place-text+in_default w ↦ length_none text place w.in_default.ensures.is
       | else-place-text w ↦ length-past text place w.if-place-text.false
     ] in
     let e = ap Err c.missing.ensures ∙ none in

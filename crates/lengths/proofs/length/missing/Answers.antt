@@ -11,10 +11,10 @@ returns-in-BadByte c =
     let small : number_of c.in-Err.fault.cause ≤ 2 = ⊎_elim (λ e. omega (arith, ap number_of e)) (λ e. omega (arith, ap number_of e)) c.in-BadByte.is in
     sym (missing-fault c.args.text.now c.args.place c.in-Err.fault c.if-place-text.false (sym c.in-Err.ensures.answer) small)
 
-pub returns-in-default : goal.returns-in-default
-returns-in-default c =
-    c.at-in-default.ensures
-    ∙ sym (missing-other c.args.text.now c.args.place c.in-Err.fault c.if-place-text.false (sym c.in-Err.ensures.answer) (number-above c.in-Err.fault.cause c.in-default.not-BadByte c.in-default.not-UnknownControl))
+pub returns-in_default : goal.returns-in_default
+returns-in_default c =
+    c.at-in_default.ensures
+    ∙ sym (missing-other c.args.text.now c.args.place c.in-Err.fault c.if-place-text.false (sym c.in-Err.ensures.answer) (number-above c.in-Err.fault.cause c.in_default.not-BadByte c.in_default.not-UnknownControl))
 
 pub returns-in-Ok : goal.returns-in-Ok
 returns-in-Ok c =
