@@ -1,6 +1,6 @@
 -- The test of a list is right: it passes exactly the lists that may be written. Assumes nothing.
 use Rattle.std.proofs.Common.{◌≡◌, ℕ, ◌^◌, ◌≤◌, true, false, ◌&&◌, leb, ◌⊎◌, List, length, ℤ, pos, negsuc, Decides, refl, inl, inr, ⊎_elim, arith}
-use Rattle.std.specs.List.{AllByRecursion as All}
+use Rattle.std.specs.List.{AllByRecursion}
 use Rattle.std.proofs.lemmas.Int.{ints}
 use Rattle.std.proofs.lemmas.Bool.{false≢true, leb-true, le-leb, ltb-true, lt-ltb}
 use Rattle.std.proofs.lemmas.Bool.Decides.{Decides-and, Decides-like}
@@ -84,7 +84,7 @@ pub decides_box : (r : BoxRecord) → Decides (good_box r) (WritableBox r)
 unfolding good_box
 decides_box r = decides_kind r.kind r refl
 
-decides_boxes : (boxes : List BoxRecord) → Decides (good_boxes boxes) (All WritableBox boxes)
+decides_boxes : (boxes : List BoxRecord) → Decides (good_boxes boxes) (AllByRecursion WritableBox boxes)
 decides_boxes boxes = Decides-by_and good_box WritableBox good_boxes decides_box refl (λ _ _. refl) boxes
 
 pub writable-decided : (t h : ℤ) (boxes : List BoxRecord) → Decides (writable t h boxes) (Writable t h boxes)

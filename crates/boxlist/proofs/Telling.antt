@@ -1,6 +1,6 @@
 -- The bytes of a list tell it, but for what is not written. Assumes nothing.
 use Rattle.std.proofs.Common.{◌≡◌, ℕ, ◌+◌, ◌⊎◌, List, [], ◌∷◌, ◌++◌, map, length, ℤ, pos, negsuc, sym, refl, ap, ◌∙◌, ⊎_elim, arith}
-use Rattle.std.specs.List.{flat_map, AllByRecursion as All}
+use Rattle.std.specs.List.{flat_map, AllByRecursion}
 use Rattle.std.proofs.lemmas.List.{append_assoc, length-map}
 use Rattle.std.proofs.lemmas.Int.{ints}
 use Rattle.boxlist.specs.declared.Kind.{Kind}
@@ -103,7 +103,7 @@ box_told a b r s p q e =
     q.listed)
     p.listed
 
-boxes-told : (cs bs : List BoxRecord) (r s : List ℕ) → length cs ≡ length bs → All WritableBox cs → All WritableBox bs → flat_map bytes_of_box cs ++ r ≡ flat_map bytes_of_box bs ++ s → (map plain cs ≡ map plain bs) × (r ≡ s)
+boxes-told : (cs bs : List BoxRecord) (r s : List ℕ) → length cs ≡ length bs → AllByRecursion WritableBox cs → AllByRecursion WritableBox bs → flat_map bytes_of_box cs ++ r ≡ flat_map bytes_of_box bs ++ s → (map plain cs ≡ map plain bs) × (r ≡ s)
 boxes-told [] [] r s long p q e = (refl, e)
 boxes-told [] (b ∷ bs) r s long p q e = absurd (omega arith)
 boxes-told (a ∷ cs) [] r s long p q e = absurd (omega arith)

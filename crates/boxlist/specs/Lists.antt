@@ -1,6 +1,6 @@
 -- What may stand in a list, and what its bytes say of it. Assumes nothing.
 use Rattle.std.specs.Prelude.{◌≡◌, ℕ, ◌^◌, ◌<◌, ◌≤◌, ◌⊎◌, List, ◌++◌, map, length, take, drop, ℤ, pos, ◌≤ℤ◌, Ok, Err, Decides, Result, unsigned_abs}
-use Rattle.std.specs.List.{AllByRecursion as All}
+use Rattle.std.specs.List.{AllByRecursion}
 use Rattle.faults.specs.declared.Cause.TheVariants.{BadBox, TooLittleRoom}
 use Rattle.faults.specs.declared.Fault.{Fault}
 use Rattle.faults.specs.Faults.{fault_at}
@@ -41,7 +41,7 @@ pub record Writable (t h : ℤ) (boxes : List BoxRecord) : Type 0 where
   pub wide : Counted t
   pub high : Counted h
   pub few : length boxes ≤ 2 ^ 40
-  pub each : All WritableBox boxes
+  pub each : AllByRecursion WritableBox boxes
 
 -- the test is right
 abbrev pub WritableDecided : Type 0
@@ -99,4 +99,4 @@ UnwrittenIdle = (t h : ℤ) (boxes : List BoxRecord) → bytes_of t h (map plain
 
 -- each number of a list that may be written is below 2^42, so that six groups hold it
 abbrev pub SixEach : Type 0
-SixEach = (t h : ℤ) (boxes : List BoxRecord) → Writable t h boxes → All (λ n. n < 2 ^ 42) (list_numbers t h boxes)
+SixEach = (t h : ℤ) (boxes : List BoxRecord) → Writable t h boxes → AllByRecursion (λ n. n < 2 ^ 42) (list_numbers t h boxes)

@@ -1,7 +1,7 @@
 -- The first byte that fails a test.
 use Rattle.std.specs.Prelude.{◌≡◌, ℕ, zero, suc, ◌+◌, ◌<◌, ◌≤◌, Bool, true, false, ltb, List, [], ◌∷◌, length, drop, Some, None, nat_lt, slice_index, refl}
 use Rattle.std.proofs.Common.{arith, inl, inr, sym, ap, ◌∙◌}
-use Rattle.std.specs.List.{prefix_len, AllByRecursion as All}
+use Rattle.std.specs.List.{prefix_len, AllByRecursion}
 use Rattle.std.proofs.lemmas.List.Sums.{prefix_len-drop_yes, prefix_len-drop_no, prefix_len-drop_all}
 use Rattle.std.proofs.lemmas.Bool.{cases_Bool, lt-ltb, le-ltb, ltb-true, ltb-false, cond-true, cond-false}
 use Rattle.measure.specs.Words.{first_not, FirstNot}
@@ -42,12 +42,12 @@ module _ (test : ℕ → Bool) where
       elim (cases_Bool (test b)) [ inl y ↦ leading_stops bs k (omega (arith, rw y at e)) (omega arith) | inr n ↦ absurd (omega (arith, rw n at e)) ]
 
   -- where none fails all pass
-  leading_all : (w : List ℕ) → length w ≤ prefix_len test w → All (λ b. test b ≡ true) w
+  leading_all : (w : List ℕ) → length w ≤ prefix_len test w → AllByRecursion (λ b. test b ≡ true) w
   leading_all [] h = tt
   leading_all (b ∷ bs) h =
       elim (cases_Bool (test b)) [ inl y ↦ (y, leading_all bs (omega (arith, rw y at h))) | inr n ↦ absurd (omega (arith, rw n at h)) ]
 
-  all-leading : (w : List ℕ) → All (λ b. test b ≡ true) w → prefix_len test w ≡ length w
+  all-leading : (w : List ℕ) → AllByRecursion (λ b. test b ≡ true) w → prefix_len test w ≡ length w
   all-leading [] h = refl
   all-leading (b ∷ bs) h = rw h.0 (omega (arith, all-leading bs h.1))
 
@@ -61,12 +61,12 @@ module _ (test : ℕ → Bool) where
         | inr n ↦ let z : ◌≡◌ {A = ℕ} 0 1 = let s : None ≡ Some p = rw n at e in cc in absurd (omega arith)
       ]
 
-  pub none-all : (w : List ℕ) → first_not test w ≡ None → All (λ b. test b ≡ true) w
+  pub none-all : (w : List ℕ) → first_not test w ≡ None → AllByRecursion (λ b. test b ≡ true) w
   none-all w e =
       elim (cases_Bool (nat_lt (prefix_len test w) (length w))) [
         | inl y ↦ let z : ◌≡◌ {A = ℕ} 0 1 = let s : Some (prefix_len test w) ≡ None = rw y at e in cc in absurd (omega arith)
         | inr n ↦ leading_all w (ltb-false _ _ n)
       ]
 
-  pub all_none : (w : List ℕ) → All (λ b. test b ≡ true) w → first_not test w ≡ None
+  pub all_none : (w : List ℕ) → AllByRecursion (λ b. test b ≡ true) w → first_not test w ≡ None
   all_none w h = cond-false _ (Some (prefix_len test w)) None (le-ltb _ _ (omega (arith, all-leading w h)))

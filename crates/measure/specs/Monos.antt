@@ -1,6 +1,6 @@
 -- The monospaced measurer: its numbers, and what it means by a word. Assumes nothing.
 use Rattle.std.specs.Prelude.{◌≡◌, ℕ, ◌<◌, Bool, cond, ◌&&◌, List, length, ℤ, pos, ◌*ℤ◌, ◌≤ℤ◌, ◌<ℤ◌, Some, None, Ok, Err, Option, Result, int_le, slice_index}
-use Rattle.std.specs.List.{AllByRecursion as All}
+use Rattle.std.specs.List.{AllByRecursion}
 use Rattle.extent.specs.declared.Plain.{Plain}
 use Rattle.faults.specs.declared.Cause.TheVariants as cause
 use Rattle.faults.specs.declared.Fault.{Fault}
@@ -60,7 +60,7 @@ mono_meaning m w = refused_or (first_not (has_character m.last) w) (mono_metrics
 
 -- every byte has the pitch, the height and the depth; what is missing is the first byte above the last
 abbrev pub Monospaced : Parts → List ℕ → Result (Metrics Plain) ℕ → Type 0
-Monospaced m w (Ok x) = All (λ b. pos b ≤ℤ m.last) w × (x.width.strip ≡ m.pitch *ℤ pos (length w)) × (x.height.strip ≡ m.height) × (x.depth.strip ≡ m.depth)
+Monospaced m w (Ok x) = AllByRecursion (λ b. pos b ≤ℤ m.last) w × (x.width.strip ≡ m.pitch *ℤ pos (length w)) × (x.height.strip ≡ m.height) × (x.depth.strip ≡ m.depth)
 Monospaced m w (Err p) = (p < length w) × (m.last <ℤ pos (slice_index w p)) × ((k : ℕ) → k < p → pos (slice_index w k) ≤ℤ m.last)
 
 abbrev pub mono_blank : Parts → Plain

@@ -1,6 +1,6 @@
 -- Words: which bytes they have, and how many; why other bytes are none. Assumes nothing.
 use Rattle.std.specs.Prelude.{◌≡◌, ℕ, ◌<◌, ◌≤◌, Bool, true, false, cond, ◌&&◌, ◌⊎◌, List, [], ◌∷◌, length, Some, None, Option, nat_le, nat_lt, slice_index}
-use Rattle.std.specs.List.{prefix_len, AllByRecursion as All}
+use Rattle.std.specs.List.{prefix_len, AllByRecursion}
 use Rattle.faults.specs.declared.Cause.TheVariants as cause
 use Rattle.faults.specs.declared.Fault.{Fault}
 use Rattle.faults.specs.Faults.{fault_at}
@@ -10,7 +10,7 @@ abbrev pub word_byte : ℕ → Bool
 word_byte b = nat_le 33 b && nat_le b 126
 
 abbrev pub WordBytes : List ℕ → Type 0
-WordBytes w = All (λ b. word_byte b ≡ true) w
+WordBytes w = AllByRecursion (λ b. word_byte b ≡ true) w
 
 -- 1 to 255 of them are a word
 abbrev pub IsWord : List ℕ → Type 0

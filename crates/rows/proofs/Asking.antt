@@ -1,7 +1,7 @@
 -- Entries that are laid, as ask takes them. Assumes nothing.
 use Rattle.std.proofs.Common.{◌≡◌, ℕ, suc, ◌+◌, ◌*◌, ◌<◌, ◌≤◌, Bool, true, false, cond, ◌&&◌, ltb, leb, List, [], ◌∷◌, map, length, get_or, take, ℤ, pos, Some, None, Ok, Option, sym, refl, ap, ◌∙◌, subst, arith}
 use Rattle.std.proofs.lemmas.List.{get_or-take, length-take}
-use Rattle.std.specs.List.{AllByRecursion as All}
+use Rattle.std.specs.List.{AllByRecursion}
 use Rattle.std.proofs.lemmas.Bool.{and_from, le-leb, lt-ltb}
 use Rattle.std.proofs.lemmas.Bool.Decides.{nat_tests}
 use Rattle.std.proofs.ByRecursion.{All-from_get_or, All-map}
@@ -28,36 +28,36 @@ pub sides-stored : {E : Type 0} (num : E → ℕ → ℤ) (k : ℕ) (rs : List (
 sides-stored num k [] = refl
 sides-stored num k (r ∷ rs) = ap (λ (x : List (Sized ℤ)). stored_by num k r ∷ x) (sides-stored num k rs)
 
-pub all_lie : {E : Type 0} (n : ℕ) (rs : List (EntryRecord E)) → All (Lies n) rs → all_lie n (map span_of rs) ≡ true
+pub all_lie : {E : Type 0} (n : ℕ) (rs : List (EntryRecord E)) → AllByRecursion (Lies n) rs → all_lie n (map span_of rs) ≡ true
 all_lie n [] h = refl
 all_lie n (r ∷ rs) h = and_from (lie n (span_of r)) (all_lie n (map span_of rs)) (and_from _ _ (le-leb r.first r.last h.0.0) (lt-ltb r.last n h.0.1)) (all_lie n rs h.1)
 
 free : (n room widths gaps : ℕ) → 1 ≤ n → n ≤ 32 → n * 32 ≤ room → n ≤ widths → n < gaps → merge_fault n room widths gaps ≡ None
 free n room widths gaps a b c d e = grind (arith, nat_tests)
 
-pub asks-fine : {E : Type 0} (n room widths gaps : ℕ) (rs : List (EntryRecord E)) → 1 ≤ n → n ≤ 32 → 1024 ≤ room → 32 ≤ widths → n < gaps → All (Lies n) rs
+pub asks-fine : {E : Type 0} (n room widths gaps : ℕ) (rs : List (EntryRecord E)) → 1 ≤ n → n ≤ 32 → 1024 ≤ room → 32 ≤ widths → n < gaps → AllByRecursion (Lies n) rs
     → unless {X = Unit {0}} (settle_fault n room widths gaps (map span_of rs)) tt ≡ Ok tt
 asks-fine n room widths gaps rs a b c d e h =
     ap (λ (o : Option Misfit). unless {X = Unit {0}} (or_else o (cond (all_lie n (map span_of rs)) None (Some Span))) tt) (free n room widths gaps a b (omega arith) (omega arith) e)
     ∙ ap (λ (x : Bool). unless {X = Unit {0}} (cond x None (Some Span)) tt) (all_lie n rs h)
 
-pub tame_entries : {E : Type 0} (num : E → ℕ → ℤ) (k b : ℕ) (rs : List (EntryRecord E)) → All (λ r. Within b (num r.width k)) rs → All (λ e. Within b e.width) (on_side num k (map span_of rs))
+pub tame_entries : {E : Type 0} (num : E → ℕ → ℤ) (k b : ℕ) (rs : List (EntryRecord E)) → AllByRecursion (λ r. Within b (num r.width k)) rs → AllByRecursion (λ e. Within b e.width) (on_side num k (map span_of rs))
 tame_entries num k b [] h = tt
 tame_entries num k b (r ∷ rs) h = (h.0, tame_entries num k b rs h.1)
 
-all_of : {X : Type 0} (P : X → Type 0) (xs : List X) → ((i : ℕ) (d : X) → i < length xs → P (get_or xs i d)) → All P xs
+all_of : {X : Type 0} (P : X → Type 0) (xs : List X) → ((i : ℕ) (d : X) → i < length xs → P (get_or xs i d)) → AllByRecursion P xs
 all_of P [] h = tt
 all_of P (x ∷ xs) h = (h 0 x (omega arith), all_of P xs (λ i d lt. h (suc i) d (omega arith)))
 
 -- what holds of each laid record holds of the list of them
-pub all_laid : {X : Type 0} (P : X → Type 0) (n : ℕ) (xs : List X) → ((i : ℕ) (d : X) → i < n → P (get_or xs i d)) → All P (take n xs)
+pub all_laid : {X : Type 0} (P : X → Type 0) (n : ℕ) (xs : List X) → ((i : ℕ) (d : X) → i < n → P (get_or xs i d)) → AllByRecursion P (take n xs)
 all_laid P n xs h = all_of P (take n xs) (λ i d lt. let l = length-take n xs in let b : i < n = omega arith in subst P (sym (get_or-take n xs i d b)) (h i d b))
 
-proper-stored : {E : Type 0} (num : E → ℕ → ℤ) (k n : ℕ) (rs : List (EntryRecord E)) → All (Lies n) rs → Proper n (map (stored_by num k) rs)
+proper-stored : {E : Type 0} (num : E → ℕ → ℤ) (k n : ℕ) (rs : List (EntryRecord E)) → AllByRecursion (Lies n) rs → Proper n (map (stored_by num k) rs)
 proper-stored num k n [] h = tt
 proper-stored num k n (r ∷ rs) h = (h.0, proper-stored num k n rs h.1)
 
-within-stored : {E : Type 0} (num : E → ℕ → ℤ) (k b : ℕ) (rs : List (EntryRecord E)) → All (λ r. Within b (num r.width k)) rs → All (λ e. Within b e.width) (map (stored_by num k) rs)
+within-stored : {E : Type 0} (num : E → ℕ → ℤ) (k b : ℕ) (rs : List (EntryRecord E)) → AllByRecursion (λ r. Within b (num r.width k)) rs → AllByRecursion (λ e. Within b e.width) (map (stored_by num k) rs)
 within-stored num k b [] h = tt
 within-stored num k b (r ∷ rs) h = (h.0, within-stored num k b rs h.1)
 

@@ -1,7 +1,7 @@
 -- What a write at the end of a part does to the parts, and what the parts mean. Assumes nothing.
 use Rattle.std.proofs.Common.{◌≡◌, ℕ, ◌+◌, ◌-◌, ◌*◌, ◌<◌, ◌≤◌, List, [], ◌∷◌, ◌++◌, map, length, take, drop, set, ℤ, ◌+ℤ◌, sym, refl, ap, ◌∙◌, subst, arith}
 use Rattle.std.proofs.lemmas.List.{length-drop, length-take-le, length-take, drop-set-add, take-set-le, take_more_set, take-take, drop-take, drop_all}
-use Rattle.std.specs.List.{AllByRecursion as All}
+use Rattle.std.specs.List.{AllByRecursion}
 use Rattle.std.proofs.ByRecursion.{All-take, All-drop, All-push, All-weaker}
 use Rattle.ledger.specs.declared.records.ItemRecord.{ItemRecord}
 use Rattle.ledger.specs.declared.records.ItemRecord.TheVariants.{Space, CellWord, TemplateWord, Kern, Hfil}
@@ -60,7 +60,7 @@ fine-taken text b (TemplateWord a n) f = refl
 fine-taken text b (Kern z) f = refl
 fine-taken text b Hfil f = refl
 
-pub fine-total : (text : List ℕ) (b : ℕ) (xs : List ItemRecord) → All (Fine text b) xs → total taken xs ≡ 0
+pub fine-total : (text : List ℕ) (b : ℕ) (xs : List ItemRecord) → AllByRecursion (Fine text b) xs → total taken xs ≡ 0
 unfolding total
 fine-total text b [] f = refl
 fine-total text b (x ∷ xs) f = let e = fine-taken text b x f.0 in let h = fine-total text b xs f.1 in omega arith
@@ -81,20 +81,20 @@ fine-meant text b (TemplateWord a n) w f = ap (template_word a) (part-front text
 fine-meant text b (Kern z) w f = refl
 fine-meant text b Hfil w f = refl
 
-pub fine-decoded : (text : List ℕ) (b : ℕ) (xs : List ItemRecord) (w : List ℕ) → All (Fine text b) xs → decoded_items (take b text) xs w ≡ decoded_items text xs w
+pub fine-decoded : (text : List ℕ) (b : ℕ) (xs : List ItemRecord) (w : List ℕ) → AllByRecursion (Fine text b) xs → decoded_items (take b text) xs w ≡ decoded_items text xs w
 unfolding chunks
 fine-decoded text b [] w f = refl
 fine-decoded text b (x ∷ xs) w f = rw (fine-meant text b x (take (taken x) w) f.0, fine-decoded text b xs (drop (taken x) w) f.1)
 
 -- items of a part are fine where all that are written are
-pub fine-part : (text : List ℕ) (b from n m : ℕ) (ps : List ItemRecord) → from + n ≤ m → All (Fine text b) (take m ps) → All (Fine text b) (take n (drop from ps))
+pub fine-part : (text : List ℕ) (b from n m : ℕ) (ps : List ItemRecord) → from + n ≤ m → AllByRecursion (Fine text b) (take m ps) → AllByRecursion (Fine text b) (take n (drop from ps))
 fine-part text b from n m ps h f =
-    subst (All (Fine text b)) (part-front ps from n m h) (All-take (Fine text b) n (drop from (take m ps)) (All-drop (Fine text b) from (take m ps) f))
+    subst (AllByRecursion (Fine text b)) (part-front ps from n m h) (All-take (Fine text b) n (drop from (take m ps)) (All-drop (Fine text b) from (take m ps) f))
 
 -- one more fine item
-pub fine-push : (text : List ℕ) (b e m n : ℕ) (ps : List ItemRecord) (x : ItemRecord) → m < length ps → n ≡ m + 1 → b ≤ e → All (Fine text b) (take m ps) → Fine text e x → All (Fine text e) (take n (set ps m x))
+pub fine-push : (text : List ℕ) (b e m n : ℕ) (ps : List ItemRecord) (x : ItemRecord) → m < length ps → n ≡ m + 1 → b ≤ e → AllByRecursion (Fine text b) (take m ps) → Fine text e x → AllByRecursion (Fine text e) (take n (set ps m x))
 fine-push text b e m n ps x lt same le f one =
-    subst (All (Fine text e)) (sym (take_more_set ps m x lt) ∙ ap (λ (j : ℕ). take j (set ps m x)) (sym same))
+    subst (AllByRecursion (Fine text e)) (sym (take_more_set ps m x lt) ∙ ap (λ (j : ℕ). take j (set ps m x)) (sym same))
     (All-push (Fine text e) (take m ps) x (All-weaker (Fine text b) (Fine text e) (λ y. fine-further text b e y le) (take m ps) f) one)
 
 -- templates over a front that holds them
@@ -104,7 +104,7 @@ template_whole text ps p c l =
     let b : (c.from + c.u) + c.v ≤ p = omega (arith, l.within) in
     rw (part-front ps c.from c.u p a, part-front ps (c.from + c.u) c.v p b)
 
-templates-whole : (text : List ℕ) (ps : List ItemRecord) (p : ℕ) (cs : List Column) → All (Lies p) cs → map (template_in text (take p ps)) cs ≡ map (template_in text ps) cs
+templates-whole : (text : List ℕ) (ps : List ItemRecord) (p : ℕ) (cs : List Column) → AllByRecursion (Lies p) cs → map (template_in text (take p ps)) cs ≡ map (template_in text ps) cs
 templates-whole text ps p [] l = refl
 templates-whole text ps p (c ∷ cs) l =
     ap (λ (t : Template). t ∷ map (template_in text (take p ps)) cs) (template_whole text ps p c l.0) ∙ ap (λ (ts : List Template). template_in text ps c ∷ ts) (templates-whole text ps p cs l.1)
@@ -112,20 +112,20 @@ templates-whole text ps p (c ∷ cs) l =
 pub lies-further : (p q : ℕ) (c : Column) → p ≤ q → Lies p c → Lies q c
 lies-further p q c h l = record { within = omega (arith, l.within); few-u = l.few-u; few-v = l.few-v }
 
-pub lie-further : (p q : ℕ) (cs : List Column) → p ≤ q → All (Lies p) cs → All (Lies q) cs
+pub lie-further : (p q : ℕ) (cs : List Column) → p ≤ q → AllByRecursion (Lies p) cs → AllByRecursion (Lies q) cs
 lie-further p q cs h = All-weaker (Lies p) (Lies q) (λ c. lies-further p q c h) cs
 
-pub templates-further : (text : List ℕ) (ps : List ItemRecord) (p q : ℕ) (cs : List Column) → p ≤ q → All (Lies p) cs → map (template_in text (take q ps)) cs ≡ map (template_in text (take p ps)) cs
+pub templates-further : (text : List ℕ) (ps : List ItemRecord) (p q : ℕ) (cs : List Column) → p ≤ q → AllByRecursion (Lies p) cs → map (template_in text (take q ps)) cs ≡ map (template_in text (take p ps)) cs
 templates-further text ps p q cs h l = templates-whole text ps q cs (lie-further p q cs h l) ∙ sym (templates-whole text ps p cs l)
 
 -- .. and over the bytes that were read
-pub template_cut : (text : List ℕ) (b p : ℕ) (ps : List ItemRecord) (c : Column) → All (Fine text b) (take p ps) → template_in (take b text) (take p ps) c ≡ template_in text (take p ps) c
+pub template_cut : (text : List ℕ) (b p : ℕ) (ps : List ItemRecord) (c : Column) → AllByRecursion (Fine text b) (take p ps) → template_in (take b text) (take p ps) c ≡ template_in text (take p ps) c
 template_cut text b p ps c f =
     let u = All-take (Fine text b) c.u (drop c.from (take p ps)) (All-drop (Fine text b) c.from (take p ps) f) in
     let v = All-take (Fine text b) c.v (drop (c.from + c.u) (take p ps)) (All-drop (Fine text b) (c.from + c.u) (take p ps) f) in
     rw (fine-decoded text b (take c.u (drop c.from (take p ps))) [] u, fine-decoded text b (take c.v (drop (c.from + c.u) (take p ps))) [] v)
 
-pub templates-cut : (text : List ℕ) (b p : ℕ) (ps : List ItemRecord) (cs : List Column) → All (Fine text b) (take p ps) → map (template_in (take b text) (take p ps)) cs ≡ map (template_in text (take p ps)) cs
+pub templates-cut : (text : List ℕ) (b p : ℕ) (ps : List ItemRecord) (cs : List Column) → AllByRecursion (Fine text b) (take p ps) → map (template_in (take b text) (take p ps)) cs ≡ map (template_in text (take p ps)) cs
 templates-cut text b p ps [] f = refl
 templates-cut text b p ps (c ∷ cs) f =
     ap (λ (t : Template). t ∷ map (template_in (take b text) (take p ps)) cs) (template_cut text b p ps c f) ∙ ap (λ (ts : List Template). template_in text (take p ps) c ∷ ts) (templates-cut text b p ps cs f)
@@ -138,7 +138,7 @@ fine-any text b (TemplateWord a n) w f = refl
 fine-any text b (Kern z) w f = refl
 fine-any text b Hfil w f = refl
 
-pub fine-natural : (count : ℕ) (wide : Item → ℕ → ℤ) (text : List ℕ) (b k : ℕ) → Sized count wide text → k < count → (xs : List ItemRecord) → All (Fine text b) xs → Within (length xs * 1073741823) (natural wide (decoded_items text xs []) k)
+pub fine-natural : (count : ℕ) (wide : Item → ℕ → ℤ) (text : List ℕ) (b k : ℕ) → Sized count wide text → k < count → (xs : List ItemRecord) → AllByRecursion (Fine text b) xs → Within (length xs * 1073741823) (natural wide (decoded_items text xs []) k)
 unfolding chunks natural
 fine-natural count wide text b k sized lt [] f = (omega (arith, ints), omega (arith, ints))
 fine-natural count wide text b k sized lt (x ∷ xs) f =
@@ -150,7 +150,7 @@ fine-natural count wide text b k sized lt (x ∷ xs) f =
     (rw e (omega (arith, ints)), rw e (omega (arith, ints)))
 
 -- a part has at most 64 items
-pub part-near : (count : ℕ) (wide : Item → ℕ → ℤ) (text : List ℕ) (b k : ℕ) → Sized count wide text → k < count → (n : ℕ) (xs : List ItemRecord) → n ≤ 64 → All (Fine text b) (take n xs) → Within 68719476736 (natural wide (decoded_items text (take n xs) []) k)
+pub part-near : (count : ℕ) (wide : Item → ℕ → ℤ) (text : List ℕ) (b k : ℕ) → Sized count wide text → k < count → (n : ℕ) (xs : List ItemRecord) → n ≤ 64 → AllByRecursion (Fine text b) (take n xs) → Within 68719476736 (natural wide (decoded_items text (take n xs) []) k)
 part-near count wide text b k sized lt n xs few f =
     let all = fine-natural count wide text b k sized lt (take n xs) f in
     let le : length (take n xs) ≤ 64 = let e = length-take n xs in omega arith in

@@ -1,7 +1,7 @@
 -- A template that is finished. Assumes nothing.
 use Rattle.std.proofs.Common.{◌≡◌, ℕ, ◌+◌, ◌-◌, ◌<◌, ◌≤◌, true, false, ltb, List, [], ◌∷◌, ◌++◌, map, length, take, drop, set, ℤ, pos, sym, refl, ap, ◌∙◌, subst, arith, le-ltb, lt-ltb}
 use Rattle.std.proofs.lemmas.List.{take-set-le, length-set, length-map, length-take-le, length_push, take_more_set, map_push}
-use Rattle.std.specs.List.{AllByRecursion as All}
+use Rattle.std.specs.List.{AllByRecursion}
 use Rattle.std.proofs.ByRecursion.{All-weaker, All-push}
 use Rattle.faults.specs.declared.Cause.TheVariants as cause
 use Rattle.faults.specs.Faults.{fault_at}
@@ -36,11 +36,11 @@ module _ {E : Type 0} (text : List ℕ) (h : Hand E) (t : Templates E) (fits : F
   column-lies : Lies (h.from + h.u + h.v) (column_of h)
   column-lies = record { within = omega arith; few-u = fits.few-u; few-v = fits.few-v }
 
-  pub all_lie : h.columns < length t.columns → All (Lies (h.from + h.u + h.v)) (take (h.columns + 1) (set t.columns h.columns (column_of h)))
+  pub all_lie : h.columns < length t.columns → AllByRecursion (Lies (h.from + h.u + h.v)) (take (h.columns + 1) (set t.columns h.columns (column_of h)))
   all_lie lt =
       let n = h.columns in
       let p = h.from + h.u + h.v in
-      subst (All (Lies p)) (sym (take_more_set t.columns n (column_of h) lt))
+      subst (AllByRecursion (Lies p)) (sym (take_more_set t.columns n (column_of h) lt))
       (All-push (Lies p) (take n t.columns) (column_of h) (lie-further h.from p (take n t.columns) (omega arith) fits.lies) column-lies)
 
   pub templates-push : h.columns < length t.columns → templates_in text (h.from + h.u + h.v) (h.columns + 1) (with_column t h) ≡ templated (reading_of text h t)
@@ -82,12 +82,12 @@ module _ {E : Type 0} (count : ℕ) (num : E → ℕ → ℤ) (wide : Item → �
         inside = le;
       }
 
-  pieces-on : (start : Parts) → Sound count num wide text start h t → All (Fine text end) (take p t.pieces)
+  pieces-on : (start : Parts) → Sound count num wide text start h t → AllByRecursion (Fine text end) (take p t.pieces)
   unfolding p chunks
   pieces-on start s =
       let e : h.from + (h.u + h.v) ≡ h.from + h.u + h.v = omega arith in
       All-weaker (Fine text h.place) (Fine text end) (λ x. fine-further text h.place end x (omega arith)) (take (h.from + h.u + h.v) t.pieces)
-      (subst (λ (n : ℕ). All (Fine text h.place) (take n t.pieces)) e s.pieces)
+      (subst (λ (n : ℕ). AllByRecursion (Fine text h.place) (take n t.pieces)) e s.pieces)
 
   -- `&` behind a template with its mark
   pub parted-turns : h.marked ≡ true → h.columns + 1 < 32 → (w : Owed E) → ((k : ℕ) → k < count → num w.u k ≡ pos 0) → ((k : ℕ) → k < count → num w.v k ≡ pos 0)
@@ -118,7 +118,7 @@ module _ {E : Type 0} (count : ℕ) (num : E → ℕ → ℤ) (wide : Item → �
               lies = all_lie text h t fits lc;
             };
             holds = holds-push start s (templates_in text (h.from + h.u + h.v) (h.columns + 1) (with_column t h)) e;
-            pieces = subst (λ (n : ℕ). All (Fine text end) (take n t.pieces)) (omega arith) (pieces-on start s);
+            pieces = subst (λ (n : ℕ). AllByRecursion (Fine text end) (take n t.pieces)) (omega arith) (pieces-on start s);
             wide-u = λ k kc. zu k kc ∙ sym (natural-none wide k) ∙ ap (λ (q : Reading). natural wide q.u k) (sym same);
             wide-v = λ k kc. zv k kc ∙ sym (natural-none wide k) ∙ ap (λ (q : Reading). natural wide q.v k) (sym same);
           },

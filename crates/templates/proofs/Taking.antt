@@ -3,7 +3,7 @@ use Rattle.std.proofs.Common.{◌≡◌, ℕ, ◌+◌, ◌-◌, ◌<◌, ◌≤�
 use borrow.Author.Tests.{both_ways}
 use Rattle.std.proofs.lemmas.Int.{ints}
 use Rattle.std.proofs.lemmas.List.{take-set-le, length-set}
-use Rattle.std.specs.List.{AllByRecursion as All}
+use Rattle.std.specs.List.{AllByRecursion}
 use Rattle.faults.specs.declared.Cause.TheVariants as cause
 use Rattle.faults.specs.Faults.{fault_at}
 use Rattle.lengths.specs.Gaps.{Parts, parts_of}
@@ -92,7 +92,7 @@ module _ {E : Type 0} (text : List ℕ) (h : Hand E) (t : Templates E) (fits : F
 module _ {E : Type 0} (count : ℕ) (num : E → ℕ → ℤ) (wide : Item → ℕ → ℤ) (text : List ℕ) (h : Hand E) (t : Templates E) (p : Piece E)
     (fits : Fits h t) (suits : Suits count num wide text h.place p) where
   -- the sum is the width of one more
-  sum_is : (e : E) (from n k : ℕ) → k < count → n ≤ 64 → All (Fine text h.place) (take n (drop from t.pieces)) → num e k ≡ natural wide (part_of text from n t.pieces) k
+  sum_is : (e : E) (from n k : ℕ) → k < count → n ≤ 64 → AllByRecursion (Fine text h.place) (take n (drop from t.pieces)) → num e k ≡ natural wide (part_of text from n t.pieces) k
       → (w : E) → ((k : ℕ) → k < count → Near (num e k) → Near (num p.width k) → num w k ≡ num e k +ℤ num p.width k)
       → num w k ≡ natural wide (part_of text from n t.pieces ++ meant text p.item [] ∷ []) k
   sum_is e from n k lt few fine same w sum =
@@ -122,7 +122,7 @@ module _ {E : Type 0} (count : ℕ) (num : E → ℕ → ℤ) (wide : Item → �
             fits = record { columns = fits.columns; widths = fits.widths; gaps = fits.gaps; lies = fits.lies; pieces = simp length-set (omega arith); few = fits.few; below = fits.below; few-u = omega arith; few-v = fits.few-v; bare = fits.bare };
             holds = holds-stay text h t fits count num wide start h.place p.end (h.from + h.u) p.item (reading_of text (more_u h p.end w) (with_piece t (h.from + h.u) p.item)).templates suits.inside (ap (λ (r : Reading). r.templates) e) s.holds;
             pieces = fine-push text h.place p.end (h.from + h.u) (h.from + ((h.u + 1) + h.v)) t.pieces p.item (omega arith) (omega arith) (omega arith)
-                (subst (λ (n : ℕ). All (Fine text h.place) (take n t.pieces)) (omega arith) s.pieces) suits.fine;
+                (subst (λ (n : ℕ). AllByRecursion (Fine text h.place) (take n t.pieces)) (omega arith) s.pieces) suits.fine;
             wide-u = λ k kc. sum_is h.widths.u h.from h.u k kc fits.few-u (fine-part text h.place h.from h.u (written h) t.pieces (omega arith) s.pieces) (s.wide-u k kc) w sum
                 ∙ ap (λ (r : Reading). natural wide r.u k) (sym e);
             wide-v = λ k kc. s.wide-v k kc ∙ ap (λ (r : Reading). natural wide r.v k) (sym e);
@@ -146,7 +146,7 @@ module _ {E : Type 0} (count : ℕ) (num : E → ℕ → ℤ) (wide : Item → �
             fits = record { columns = fits.columns; widths = fits.widths; gaps = fits.gaps; lies = fits.lies; pieces = simp length-set (omega arith); few = fits.few; below = fits.below; few-u = fits.few-u; few-v = omega arith; bare = λ n. absurd (both_ways h.marked n m) };
             holds = holds-stay text h t fits count num wide start h.place p.end (h.from + h.u + h.v) p.item (reading_of text (more_v h p.end w) (with_piece t (h.from + h.u + h.v) p.item)).templates suits.inside (ap (λ (r : Reading). r.templates) e) s.holds;
             pieces = fine-push text h.place p.end (h.from + h.u + h.v) (h.from + (h.u + (h.v + 1))) t.pieces p.item (omega arith) (omega arith) (omega arith)
-                (subst (λ (n : ℕ). All (Fine text h.place) (take n t.pieces)) (omega arith) s.pieces) suits.fine;
+                (subst (λ (n : ℕ). AllByRecursion (Fine text h.place) (take n t.pieces)) (omega arith) s.pieces) suits.fine;
             wide-u = λ k kc. s.wide-u k kc ∙ ap (λ (r : Reading). natural wide r.u k) (sym e);
             wide-v = λ k kc. sum_is h.widths.v (h.from + h.u) h.v k kc fits.few-v (fine-part text h.place (h.from + h.u) h.v (written h) t.pieces (omega arith) s.pieces) (s.wide-v k kc) w sum
                 ∙ ap (λ (r : Reading). natural wide r.v k) (sym e);

@@ -1,6 +1,6 @@
 -- A preamble from its first token to its last. Assumes nothing.
 use Rattle.std.proofs.Common.{◌≡◌, ℕ, zero, suc, ◌+◌, ◌-◌, ◌<◌, ◌≤◌, false, List, [], ◌∷◌, map, length, get_or, take, drop, ℤ, pos, Ok, Err, Result, sym, refl, ap, ◌∙◌, subst, ⊎_elim, arith}
-use Rattle.std.specs.List.{AllByRecursion as All}
+use Rattle.std.specs.List.{AllByRecursion}
 use Rattle.std.proofs.lemmas.Int.{ints}
 use Rattle.std.proofs.lemmas.List.{length-set, length-map, length-take-le, take_more_set, get_or-take, get_or-map, get_or_past}
 use Rattle.std.proofs.ByRecursion.{All-get_or, All-map, All-take, All-drop}
@@ -68,7 +68,7 @@ module _ {X : Type 0} (text : List ℕ) (meaning : List ℕ → Result X ℕ) (P
   read-refuses zero r f lt e h = absurd (omega arith)
   read-refuses (suc n) r f lt e h = ap (λ (o : Outcome). onward o (read_by text meaning n)) (sym e) ∙ h
 
-all_any : {X : Type 0} (P : X → Type 0) → ((x : X) → P x) → (xs : List X) → All P xs
+all_any : {X : Type 0} (P : X → Type 0) → ((x : X) → P x) → (xs : List X) → AllByRecursion P xs
 all_any P f [] = tt
 all_any P f (x ∷ xs) = (f x, all_any P f xs)
 
@@ -131,7 +131,7 @@ module _ {E : Type 0} (count : ℕ) (num : E → ℕ → ℤ) (wide : Item → �
   length-read : length (templates_in text d.pieces d.columns t) ≡ d.columns
   length-read = length-map (take d.columns t.columns) (template_in text (take d.pieces t.pieces)) ∙ length-take-le d.columns t.columns done.columns
 
-  fine-in : (from m : ℕ) → All (Fine text d.bytes) (take m (drop from (take d.pieces t.pieces)))
+  fine-in : (from m : ℕ) → AllByRecursion (Fine text d.bytes) (take m (drop from (take d.pieces t.pieces)))
   fine-in from m = All-take (Fine text d.bytes) m (drop from (take d.pieces t.pieces)) (All-drop (Fine text d.bytes) from (take d.pieces t.pieces) done.pieces)
 
   nothing : (k : ℕ) → Within 68719476736 (natural wide [] k)

@@ -1,6 +1,6 @@
 -- What holds of the memory while a preamble is read, and when it is read. Assumes nothing.
 use Rattle.std.specs.Prelude.{◌≡◌, ℕ, ◌+◌, ◌*◌, ◌<◌, ◌≤◌, false, List, [], ◌∷◌, map, length, get_or, take, drop, ℤ, Ok, Err, Result, slice_index_or}
-use Rattle.std.specs.List.{AllByRecursion as All}
+use Rattle.std.specs.List.{AllByRecursion}
 use Rattle.faults.specs.declared.Fault.{Fault}
 use Rattle.extent.specs.Sizes.{Within}
 use Rattle.measure.specs.Words.{IsWord}
@@ -48,7 +48,7 @@ pub record Fits {E : Type 0} (h : Hand E) (t : Templates E) : Type 0 where
   pub few-u : h.u ≤ 64
   pub few-v : h.v ≤ 64
   pub bare : h.marked ≡ false → h.v ≡ 0
-  pub lies : All (Lies h.from) (take h.columns t.columns)
+  pub lies : AllByRecursion (Lies h.from) (take h.columns t.columns)
 
 -- no item of a template is wider than a word may be
 abbrev pub Sized : ℕ → (Item → ℕ → ℤ) → List ℕ → Type 0
@@ -78,7 +78,7 @@ pub record Holds {E : Type 0} (count : ℕ) (num : E → ℕ → ℤ) (wide : It
 pub record Sound {E : Type 0} (count : ℕ) (num : E → ℕ → ℤ) (wide : Item → ℕ → ℤ) (text : List ℕ) (start : Parts) (h : Hand E) (t : Templates E) : Type 0 where
   pub fits : Fits h t
   pub holds : Holds count num wide text start h.columns h.place t (reading_of text h t).templates
-  pub pieces : All (Fine text h.place) (take (written h) t.pieces)
+  pub pieces : AllByRecursion (Fine text h.place) (take (written h) t.pieces)
   pub wide-u : (k : ℕ) → k < count → num h.widths.u k ≡ natural wide (reading_of text h t).u k
   pub wide-v : (k : ℕ) → k < count → num h.widths.v k ≡ natural wide (reading_of text h t).v k
 
@@ -91,9 +91,9 @@ pub record Done {E : Type 0} (count : ℕ) (num : E → ℕ → ℤ) (wide : Ite
   pub widths : d.columns ≤ length t.widths
   pub gaps : d.columns < length t.gaps
   pub enough : d.pieces ≤ length t.pieces
-  pub lies : All (Lies d.pieces) (take d.columns t.columns)
+  pub lies : AllByRecursion (Lies d.pieces) (take d.columns t.columns)
   pub holds : Holds count num wide text start d.columns d.bytes t (templates_in text d.pieces d.columns t)
-  pub pieces : All (Fine text d.bytes) (take d.pieces t.pieces)
+  pub pieces : AllByRecursion (Fine text d.bytes) (take d.pieces t.pieces)
 
 -- after a token at a place
 abbrev pub SoundNext : {E : Type 0} → ℕ → (E → ℕ → ℤ) → (Item → ℕ → ℤ) → List ℕ → Parts → ℕ → Templates E → Next E → Type 0
@@ -124,7 +124,7 @@ pub record Kept {E : Type 0} (text : List ℕ) (start : Parts) (t : Templates E)
   pub columns : (c : ℕ) (e : Column) → c < d.columns → Lies d.pieces (slice_index_or t.columns c e)
   pub bare : total taken (take d.pieces t.pieces) ≡ 0
   pub words : (i a n : ℕ) (e : ItemRecord) → i < d.pieces → slice_index_or t.pieces i e ≡ TemplateWord a n → IsWord (take n (drop a text)) × (a + n ≤ d.bytes)
-  pub gaps : All (λ g. Within 16777215 g.natural) (map parts_of (take (d.columns + 1) t.gaps))
+  pub gaps : AllByRecursion (λ g. Within 16777215 g.natural) (map parts_of (take (d.columns + 1) t.gaps))
   -- so much lies in the memory
   pub long-columns : d.columns ≤ length t.columns
   pub long-widths : d.columns ≤ length t.widths

@@ -1,6 +1,6 @@
 -- Widths that meet the formula hold every entry, and their edges are the least. Assumes nothing.
 use Rattle.std.proofs.Common.{◌≡◌, ℕ, zero, suc, ◌<◌, ◌≤◌, List, [], ◌∷◌, ℤ, pos, ◌+ℤ◌, ◌-ℤ◌, ◌≤ℤ◌, Some, None, Option, sym, refl, ap, ◌∙◌, subst, ⊎_elim, arith}
-use Rattle.std.specs.List.{AllByRecursion as All}
+use Rattle.std.specs.List.{AllByRecursion}
 use Rattle.std.proofs.lemmas.Int.{ints}
 use Rattle.std.proofs.lemmas.Bool.{cases_lt}
 use Rattle.std.proofs.ByRecursion.{All-weaker}
@@ -21,7 +21,7 @@ less-above x o y h =
 above-size : (x : ℤ) (o : Option ℤ) → Above x o → x ≤ℤ size o
 above-size x o h = subst (λ p. x ≤ℤ size p) (sym h.is) h.reaches
 
-AllBoth : {X : Type 0} (P Q R : X → Type 0) → ((x : X) → P x → Q x → R x) → (xs : List X) → All P xs → All Q xs → All R xs
+AllBoth : {X : Type 0} (P Q R : X → Type 0) → ((x : X) → P x → Q x → R x) → (xs : List X) → AllByRecursion P xs → AllByRecursion Q xs → AllByRecursion R xs
 AllBoth P Q R f [] p q = tt
 AllBoth P Q R f (x ∷ xs) p q = (f x p.0 q.0, AllBoth P Q R f xs p.1 q.1)
 

@@ -1,6 +1,6 @@
 -- Laws of W(i,j), the larger-of of the entries over columns i to j. Assumes nothing.
 use Rattle.std.proofs.Common.{◌≡◌, ℕ, zero, suc, ◌<◌, ◌≤◌, Bool, true, false, cond, ◌&&◌, eqb, List, [], ◌∷◌, ◌++◌, map, ℤ, pos, ◌+ℤ◌, ◌≤ℤ◌, Some, None, Option, sym, refl, ap, ◌∙◌, subst, ⊎_elim, arith}
-use Rattle.std.specs.List.{AllByRecursion as All}
+use Rattle.std.specs.List.{AllByRecursion}
 use Rattle.std.specs.Int.{int_max}
 use Rattle.std.proofs.lemmas.Int.{ints, clamps}
 use Rattle.std.proofs.lemmas.Bool.{cond-true, cond-false, cases_Bool, and_parts, and_from, and_left, and_right, eq-eqb, eqb-true, ne_eqb}
@@ -33,7 +33,7 @@ asked-from P e i j z p h = ⊎_elim
     (cases_Bool (eqb e.first i && eqb e.last j))
 
 -- what W(i,j) is, some entry over i to j is
-pub widest-from : (P : ℤ → Type 0) (es : List (Entry ℤ)) (i j : ℕ) (z : ℤ) → All (λ e. e.first ≡ i → e.last ≡ j → P e.width) es → widest es i j ≡ Some z → P z
+pub widest-from : (P : ℤ → Type 0) (es : List (Entry ℤ)) (i j : ℕ) (z : ℤ) → AllByRecursion (λ e. e.first ≡ i → e.last ≡ j → P e.width) es → widest es i j ≡ Some z → P z
 unfolding widest
 widest-from P [] i j z all h = let q : ◌≡◌ {A = ℕ} 0 1 = cc in absurd (omega arith)
 widest-from P (e ∷ es) i j z all h = join-from (asked e i j) (widest es i j) z h
@@ -43,7 +43,7 @@ widest-from P (e ∷ es) i j z all h = join-from (asked e i j) (widest es i j) z
 self-reaches : (x : ℤ) → x ≤ℤ x
 self-reaches x = omega (arith, ints)
 
-above_in : (all es : List (Entry ℤ)) → ((x : Entry ℤ) (i j : ℕ) → Above x.width (widest es i j) → Above x.width (widest all i j)) → All (λ e. Above e.width (widest all e.first e.last)) es
+above_in : (all es : List (Entry ℤ)) → ((x : Entry ℤ) (i j : ℕ) → Above x.width (widest es i j) → Above x.width (widest all i j)) → AllByRecursion (λ e. Above e.width (widest all e.first e.last)) es
 unfolding widest
 above_in all [] lift = tt
 above_in all (e ∷ es) lift = (
@@ -52,7 +52,7 @@ above_in all (e ∷ es) lift = (
 )
 
 -- W over an entry's columns reaches its width
-pub widest-above : (es : List (Entry ℤ)) → All (λ e. Above e.width (widest es e.first e.last)) es
+pub widest-above : (es : List (Entry ℤ)) → AllByRecursion (λ e. Above e.width (widest es e.first e.last)) es
 widest-above es = above_in es es (λ e i j h. h)
 
 -- where no entry ends in j, no W(i,j) is there
@@ -74,7 +74,7 @@ asked-within b e i j h = ⊎_elim
     (λ f. subst (WithinIf b) (sym (cond-false (eqb e.first i && eqb e.last j) (Some e.width) None f)) tt)
     (cases_Bool (eqb e.first i && eqb e.last j))
 
-pub widest-within : (b : ℕ) (es : List (Entry ℤ)) (i j : ℕ) → All (λ e. Within b e.width) es → WithinIf b (widest es i j)
+pub widest-within : (b : ℕ) (es : List (Entry ℤ)) (i j : ℕ) → AllByRecursion (λ e. Within b e.width) es → WithinIf b (widest es i j)
 unfolding widest
 widest-within b [] i j all = tt
 widest-within b (e ∷ es) i j all = join-within b (asked e i j) (widest es i j) (asked-within b e i j all.0) (widest-within b es i j all.1)

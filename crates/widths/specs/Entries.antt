@@ -1,6 +1,6 @@
 -- Entries over columns, counted from 0, and what they ask of the widths. Assumes nothing.
 use Rattle.std.specs.Prelude.{◌≡◌, ℕ, ◌<◌, ◌≤◌, cond, ◌&&◌, List, [], ◌∷◌, map, ℤ, ◌≤ℤ◌, Some, None, Option, ◌==◌, ◌≢◌}
-use Rattle.std.specs.List.{AllByRecursion as All}
+use Rattle.std.specs.List.{AllByRecursion}
 use Rattle.widths.specs.declared.Entry.{Entry}
 use Rattle.widths.specs.Merging.{join}
 use Rattle.widths.specs.Formula.{reach}
@@ -23,12 +23,12 @@ widest (e ∷ es) i j = join (asked e i j) (widest es i j)
 
 -- entries that lie in n columns
 abbrev pub Proper : {E : Type 0} → ℕ → List (Entry E) → Type 0
-Proper n es = All (λ e. (e.first ≤ e.last) × (e.last < n)) es
+Proper n es = AllByRecursion (λ e. (e.first ≤ e.last) × (e.last < n)) es
 
 -- widths w between gaps g hold the entries: each one's columns with the gaps between reach its natural width
 abbrev pub Holds : (ℕ → Option ℤ) → (ℕ → ℤ) → List (Entry ℤ) → Type 0
-Holds w g es = All (λ e. e.width ≤ℤ reach w g e.first e.last) es
+Holds w g es = AllByRecursion (λ e. e.width ≤ℤ reach w g e.first e.last) es
 
 -- no entry ends in column j
 abbrev pub NoneEnds : ℕ → List (Entry ℤ) → Type 0
-NoneEnds j es = All (λ e. e.last ≢ j) es
+NoneEnds j es = AllByRecursion (λ e. e.last ≢ j) es

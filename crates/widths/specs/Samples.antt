@@ -1,6 +1,6 @@
 -- Worked tables: entries, gaps and the widths that they settle to. Assumes nothing.
 use Rattle.std.specs.Prelude.{◌≡◌, ℕ, zero, suc, List, [], ◌∷◌, ◌++◌, get_or, ℤ, pos, negsuc, Some, None, Option, slice_index_or}
-use Rattle.std.specs.List.{AllByRecursion as All}
+use Rattle.std.specs.List.{AllByRecursion}
 use Rattle.widths.specs.declared.Entry.{Entry}
 use Rattle.widths.specs.Merging.{width, counted}
 use Rattle.widths.specs.Formula.{natural}
@@ -76,4 +76,4 @@ abbrev pub Settles : Sample → Type 0
 Settles s = (widths_of s s.columns ≡ s.widths) × (gaps_of s s.columns ≡ s.counting) × (total_of s ≡ s.total)
 
 abbrev pub SamplesSettle : Type 0
-SamplesSettle = All Settles samples
+SamplesSettle = AllByRecursion Settles samples

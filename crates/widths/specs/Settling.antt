@@ -1,6 +1,6 @@
 -- Settled widths, on one side. Assumes nothing.
 use Rattle.std.specs.Prelude.{◌≡◌, ℕ, ◌<◌, ◌≤◌, List, ℤ, ◌≤ℤ◌, Some, None, Option}
-use Rattle.std.specs.List.{AllByRecursion as All}
+use Rattle.std.specs.List.{AllByRecursion}
 use Rattle.extent.specs.Sizes.{Within, Near}
 use Rattle.widths.specs.declared.Entry.{Entry}
 use Rattle.widths.specs.Merging.{width, size}
@@ -9,7 +9,7 @@ use Rattle.widths.specs.Entries.{widest, Proper, Holds, NoneEnds}
 
 -- entries and gaps of the sizes that a table keeps to; start is the starting gap
 pub record Tame (es : List (Entry ℤ)) (start : ℤ) (g : ℕ → ℤ) : Type 0 where
-  pub entries : All (λ e. Within 1073741823 e.width) es
+  pub entries : AllByRecursion (λ e. Within 1073741823 e.width) es
   pub starting : Within 16777215 start
   pub gaps : (j : ℕ) → Within 16777215 (g j)
 

@@ -1,5 +1,5 @@
 use Rattle.std.proofs.Common.{◌≡◌, ℕ, ◌+◌, ◌-◌, ◌<◌, ◌≤◌, List, map, length, take, ℤ, is_ok, Ok, sym, refl, ap, ◌∙◌, subst, arith}
-use Rattle.std.specs.List.{AllByRecursion as All}
+use Rattle.std.specs.List.{AllByRecursion}
 use Rattle.extent.specs.Sizes.{Within}
 use Rattle.widths.specs.declared.Entry.{Entry as Sized}
 use Rattle.widths.specs.Entries.{on_side}
@@ -31,7 +31,7 @@ returns g c = record {
             (ap (λ (i : ℕ). on_side X.num k (map span_of (take i es))) whole ∙ sides-stored X.num k (take le es) ∙ sound.laid k kc)
             (c.settle-laid.ensures.settled (ap is_ok ok) k kc
             (record {
-              entries = subst (λ (i : ℕ). All (λ e. Within 1073741823 e.width) (on_side X.num k (map span_of (take i es)))) (sym whole)
+              entries = subst (λ (i : ℕ). AllByRecursion (λ e. Within 1073741823 e.width) (on_side X.num k (map span_of (take i es)))) (sym whole)
                   (tame_entries X.num k 1073741823 (take le es) (all_laid (λ (r : EntryRecord g.row.E.Denot). Within 1073741823 (X.num r.width k)) le es (λ t d lt. sound.sized k t d kc lt)));
               starting = gaps 0;
               gaps = λ j. gaps (j + 1);
