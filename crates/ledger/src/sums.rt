@@ -10,7 +10,7 @@ fn is_out(n: i64) -> bool
 }
 
 fn side_out<E: Extent>(w: E, k: usize) -> bool
-    ensures { k < count → result ≡ out_z (num w k) }
+    ensures { k < E.count → result ≡ out_z (E.num w k) }
 {
     match w.number(k) {
         Some(n) => is_out(n),
@@ -20,7 +20,7 @@ fn side_out<E: Extent>(w: E, k: usize) -> bool
 
 /// Whether an extent is outside ±K on a side.
 pub fn outside<E: Extent>(w: E) -> bool
-    ensures { result ≡ beyond count (num w) }
+    ensures { result ≡ beyond E.count (E.num w) }
 {
     for k in 0..E::sides() {
         if side_out(w, k) {

@@ -28,9 +28,9 @@ pub sides-stored : {E : Type 0} (num : E → ℕ → ℤ) (k : ℕ) (rs : List (
 sides-stored num k [] = refl
 sides-stored num k (r ∷ rs) = ap (λ (x : List (Sized ℤ)). stored_by num k r ∷ x) (sides-stored num k rs)
 
-pub all_lie : {E : Type 0} (n : ℕ) (rs : List (EntryRecord E)) → AllByRecursion (Lies n) rs → all_lie n (map span_of rs) ≡ true
-all_lie n [] h = refl
-all_lie n (r ∷ rs) h = and_from (lie n (span_of r)) (all_lie n (map span_of rs)) (and_from _ _ (le-leb r.first r.last h.0.0) (lt-ltb r.last n h.0.1)) (all_lie n rs h.1)
+pub all_lie_lem : {E : Type 0} (n : ℕ) (rs : List (EntryRecord E)) → AllByRecursion (Lies n) rs → all_lie n (map span_of rs) ≡ true
+all_lie_lem n [] h = refl
+all_lie_lem n (r ∷ rs) h = and_from (lie n (span_of r)) (all_lie n (map span_of rs)) (and_from _ _ (le-leb r.first r.last h.0.0) (lt-ltb r.last n h.0.1)) (all_lie_lem n rs h.1)
 
 free : (n room widths gaps : ℕ) → 1 ≤ n → n ≤ 32 → n * 32 ≤ room → n ≤ widths → n < gaps → merge_fault n room widths gaps ≡ None
 free n room widths gaps a b c d e = grind (arith, nat_tests)
@@ -39,7 +39,7 @@ pub asks-fine : {E : Type 0} (n room widths gaps : ℕ) (rs : List (EntryRecord 
     → unless {X = Unit {0}} (settle_fault n room widths gaps (map span_of rs)) tt ≡ Ok tt
 asks-fine n room widths gaps rs a b c d e h =
     ap (λ (o : Option Misfit). unless {X = Unit {0}} (or_else o (cond (all_lie n (map span_of rs)) None (Some Span))) tt) (free n room widths gaps a b (omega arith) (omega arith) e)
-    ∙ ap (λ (x : Bool). unless {X = Unit {0}} (cond x None (Some Span)) tt) (all_lie n rs h)
+    ∙ ap (λ (x : Bool). unless {X = Unit {0}} (cond x None (Some Span)) tt) (all_lie_lem n rs h)
 
 pub tame_entries : {E : Type 0} (num : E → ℕ → ℤ) (k b : ℕ) (rs : List (EntryRecord E)) → AllByRecursion (λ r. Within b (num r.width k)) rs → AllByRecursion (λ e. Within b e.width) (on_side num k (map span_of rs))
 tame_entries num k b [] h = tt

@@ -167,11 +167,11 @@ begun-at Fresh c f d h = refl
 begun-at Begun c f d h = refl
 begun-at Omitted c f d h = refl
 
-pub fresh_at : (st : Stage) (c f d : ℕ) (h : Held) → fresh_at d (hand_by st c f h) ≡ cond (fresh_in st) (eqb c d) false
-fresh_at Closed c f d h = refl
-fresh_at Fresh c f d h = refl
-fresh_at Begun c f d h = refl
-fresh_at Omitted c f d h = refl
+pub fresh_at_lem : (st : Stage) (c f d : ℕ) (h : Held) → fresh_at d (hand_by st c f h) ≡ cond (fresh_in st) (eqb c d) false
+fresh_at_lem Closed c f d h = refl
+fresh_at_lem Fresh c f d h = refl
+fresh_at_lem Begun c f d h = refl
+fresh_at_lem Omitted c f d h = refl
 
 pub lay_yes : (g : Ledger) (c : ℕ) → begun_at c g.hand ≡ true → None ≡ lay_verdict g c
 lay_yes g c e = rw e

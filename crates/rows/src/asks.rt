@@ -23,10 +23,10 @@ fn settle_laid<E: Extent>(
     widths: &mut [Option<E>],
 ) -> Result<(), Misfit>
     ensures answer { result ≡ unless (settle_fault columns (length cells.old) (length widths.old) (length gaps.now) (map span_of laid.now)) tt }
-    ensures settled { is_ok result ≡ true → (k : ℕ) → k < count → TameOn num k (map span_of laid.now) gaps.now → SettledOn num entered k (map span_of laid.now) gaps.now columns widths.new }
+    ensures settled { is_ok result ≡ true → (k : ℕ) → k < E.count → TameOn E.num k (map span_of laid.now) gaps.now → SettledOn E.num E.entered k (map span_of laid.now) gaps.now columns widths.new }
 {
     let mut table = SpanTable { columns, cells };
-    table.settle(laid, gaps, widths)
+    table.settle_records(laid, gaps, widths)
 }
 
 /// The widths of the columns over all entries laid, in lent cells.
@@ -41,8 +41,8 @@ pub fn ask_in<E: Extent>(
     requires good { Good state.now memory.now preamble.now }
     requires few { length preamble.now.columns.now ≤ 32 }
     requires room { (1024 ≤ length cells.old) × ((32 ≤ length widths.old) × (length preamble.now.columns.now < length gaps.now)) }
-    ensures settled { (wide : Item → ℕ → ℤ) → Sound count num wide preamble.now state.now memory.now → ((j : ℕ) → Within 16777215 (slice_index_or gaps.now j (pos 0))) →
-        (result ≡ Ok tt) × ((k : ℕ) → k < count → Settled (map (natural_by wide k) (laid_entries (ledger_of preamble.now state.now memory.now))) (starting entered k gaps.now) (after entered k gaps.now) (length preamble.now.columns.now) (column num k widths.new)) }
+    ensures settled { (wide : Item → ℕ → ℤ) → Sound E.count E.num wide preamble.now state.now memory.now → ((j : ℕ) → Within 16777215 (slice_index_or gaps.now j (pos 0))) →
+        (result ≡ Ok tt) × ((k : ℕ) → k < E.count → Settled (map (natural_by wide k) (laid_entries (ledger_of preamble.now state.now memory.now))) (starting E.entered k gaps.now) (after E.entered k gaps.now) (length preamble.now.columns.now) (column E.num k widths.new)) }
 {
     let laid = &memory.entries[0..state.laid.entries];
     settle_laid(laid, preamble.columns.len(), gaps, cells, widths)

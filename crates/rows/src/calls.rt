@@ -72,7 +72,7 @@ pub fn take_in<E: Extent>(
     requires { Good state.old memory.old preamble.now }
     ensures answer { result ≡ take_verdict (templates_of preamble.now) (room_in memory.old) (ledger_of preamble.now state.old memory.old) }
     ensures ledger { ledger_of preamble.now state.new memory.new ≡ after result (ledger_of preamble.now state.old memory.old) (opened (ledger_of preamble.now state.old memory.old)) }
-    ensures sound { (wide : Item → ℕ → ℤ) → Sound count num wide preamble.now state.old memory.old → Sound count num wide preamble.now state.new memory.new }
+    ensures sound { (wide : Item → ℕ → ℤ) → Sound E.count E.num wide preamble.now state.old memory.old → Sound E.count E.num wide preamble.now state.new memory.new }
     ensures good { Good state.new memory.new preamble.now }
     ensures lens { lens_of memory.new ≡ lens_of memory.old }
 {
@@ -131,7 +131,7 @@ fn add_v<E: Extent>(state: &mut State<E>, memory: &mut Memory<E>, preamble: &Pre
     ensures fit { Fit state.new memory.new }
     ensures lens { lens_of memory.new ≡ lens_of memory.old }
     ensures entries { memory.new.entries.now ≡ memory.old.entries.now }
-    ensures width { state.old.stage ≡ Stage.Begun → (d : Owed E) (k : ℕ) → k < count → Near (num state.old.row.width k) → Near (num (slice_index_or preamble.now.widths.now state.old.row.column d).v k) → num state.new.row.width k ≡ num state.old.row.width k +ℤ num (slice_index_or preamble.now.widths.now state.old.row.column d).v k }
+    ensures width { state.old.stage ≡ Stage.Begun → (d : Owed E) (k : ℕ) → k < E.count → Near (E.num state.old.row.width k) → Near (E.num (slice_index_or preamble.now.widths.now state.old.row.column d).v k) → E.num state.new.row.width k ≡ E.num state.old.row.width k +ℤ E.num (slice_index_or preamble.now.widths.now state.old.row.column d).v k }
     ensures still { (state.old.stage ≢ Stage.Begun) → state.new.row.width ≡ state.old.row.width }
     ensures marks { state.new.marks ≡ (moved_on state.old (length (v_of preamble.now state.old.stage state.old.row.column))).marks }
     ensures same { (state.new.lines ≡ state.old.lines) × (state.new.laid ≡ state.old.laid) × (state.new.stage ≡ state.old.stage) × (state.new.row.column ≡ state.old.row.column) × (state.new.row.first ≡ state.old.row.first) × (state.new.row.begin ≡ state.old.row.begin) }
@@ -162,7 +162,7 @@ fn finish<E: Extent>(state: &mut State<E>, memory: &mut Memory<E>, preamble: &Pr
     ensures fit { Fit state.new memory.new }
     ensures lens { lens_of memory.new ≡ lens_of memory.old }
     ensures entries { memory.new.entries.now ≡ slice_set memory.old.entries.now state.old.marks.entries (record { first = state.old.row.first; last = state.old.row.column; count = state.new.marks.items - state.old.row.begin; width = state.new.row.width }) }
-    ensures width { state.old.stage ≡ Stage.Begun → (d : Owed E) (k : ℕ) → k < count → Near (num state.old.row.width k) → Near (num (slice_index_or preamble.now.widths.now state.old.row.column d).v k) → num state.new.row.width k ≡ num state.old.row.width k +ℤ num (slice_index_or preamble.now.widths.now state.old.row.column d).v k }
+    ensures width { state.old.stage ≡ Stage.Begun → (d : Owed E) (k : ℕ) → k < E.count → Near (E.num state.old.row.width k) → Near (E.num (slice_index_or preamble.now.widths.now state.old.row.column d).v k) → E.num state.new.row.width k ≡ E.num state.old.row.width k +ℤ E.num (slice_index_or preamble.now.widths.now state.old.row.column d).v k }
     ensures still { (state.old.stage ≢ Stage.Begun) → state.new.row.width ≡ state.old.row.width }
     ensures numbers { Finished preamble.now state.old state.new }
 {
@@ -204,7 +204,7 @@ pub fn lay_in<E: Extent>(
     requires { Good state.old memory.old preamble.now }
     ensures answer { result ≡ lay_verdict (ledger_of preamble.now state.old memory.old) column }
     ensures ledger { ledger_of preamble.now state.new memory.new ≡ after result (ledger_of preamble.now state.old memory.old) (on_open (lays (templates_of preamble.now) (ledger_of preamble.now state.old memory.old)) (ledger_of preamble.now state.old memory.old) (ledger_of preamble.now state.old memory.old).hand) }
-    ensures sound { (wide : Item → ℕ → ℤ) → Sound count num wide preamble.now state.old memory.old → Sound count num wide preamble.now state.new memory.new }
+    ensures sound { (wide : Item → ℕ → ℤ) → Sound E.count E.num wide preamble.now state.old memory.old → Sound E.count E.num wide preamble.now state.new memory.new }
     ensures good { Good state.new memory.new preamble.now }
     ensures lens { lens_of memory.new ≡ lens_of memory.old }
 {
@@ -227,7 +227,7 @@ pub fn omit_in<E: Extent>(
     requires { Good state.old memory.old preamble.now }
     ensures answer { result ≡ omit_verdict (ledger_of preamble.now state.old memory.old) column }
     ensures ledger { ledger_of preamble.now state.new memory.new ≡ after result (ledger_of preamble.now state.old memory.old) (on_open (omits (ledger_of preamble.now state.old memory.old)) (ledger_of preamble.now state.old memory.old) (ledger_of preamble.now state.old memory.old).hand) }
-    ensures sound { (wide : Item → ℕ → ℤ) → Sound count num wide preamble.now state.old memory.old → Sound count num wide preamble.now state.new memory.new }
+    ensures sound { (wide : Item → ℕ → ℤ) → Sound E.count E.num wide preamble.now state.old memory.old → Sound E.count E.num wide preamble.now state.new memory.new }
     ensures good { Good state.new memory.new preamble.now }
     ensures lens { lens_of memory.new ≡ lens_of memory.old }
 {
@@ -243,7 +243,7 @@ fn v_width<E: Extent>(state: &State<E>, preamble: &Preamble<E>) -> E
     requires column { state.now.row.column < length preamble.now.columns.now }
     requires widths { length preamble.now.widths.now ≡ length preamble.now.columns.now }
     ensures begun { state.now.stage ≡ Stage.Begun → (d : Owed E) → result ≡ (slice_index_or preamble.now.widths.now state.now.row.column d).v }
-    ensures rest { (state.now.stage ≢ Stage.Begun) → (k : ℕ) → k < count → num result k ≡ pos 0 }
+    ensures rest { (state.now.stage ≢ Stage.Begun) → (k : ℕ) → k < E.count → E.num result k ≡ pos 0 }
 {
     match state.stage {
         Stage::Begun => {
@@ -267,11 +267,11 @@ pub fn add_in<E: Extent>(
     requires begun { begun_in state.old.stage ≡ true }
     requires bytes { taken it ≡ length word.now }
     requires few { length word.now ≤ 255 }
-    ensures answer { (wide : Item → ℕ → ℤ) → Sound count num wide preamble.now state.old memory.old → ((k : ℕ) → k < count → (num width k ≡ wide (meant preamble.now.text.now it word.now) k) × Within 1073741823 (num width k))
-        → result ≡ add_verdict count wide (templates_of preamble.now) (room_in memory.old) (ledger_of preamble.now state.old memory.old) (meant preamble.now.text.now it word.now) }
+    ensures answer { (wide : Item → ℕ → ℤ) → Sound E.count E.num wide preamble.now state.old memory.old → ((k : ℕ) → k < E.count → (E.num width k ≡ wide (meant preamble.now.text.now it word.now) k) × Within 1073741823 (E.num width k))
+        → result ≡ add_verdict E.count wide (templates_of preamble.now) (room_in memory.old) (ledger_of preamble.now state.old memory.old) (meant preamble.now.text.now it word.now) }
     ensures ledger { ledger_of preamble.now state.new memory.new ≡ after result (ledger_of preamble.now state.old memory.old) (on_open (puts (meant preamble.now.text.now it word.now) (ledger_of preamble.now state.old memory.old)) (ledger_of preamble.now state.old memory.old) (ledger_of preamble.now state.old memory.old).hand) }
-    ensures sound { (wide : Item → ℕ → ℤ) → Sound count num wide preamble.now state.old memory.old → ((k : ℕ) → k < count → (num width k ≡ wide (meant preamble.now.text.now it word.now) k) × Within 1073741823 (num width k))
-        → Sound count num wide preamble.now state.new memory.new }
+    ensures sound { (wide : Item → ℕ → ℤ) → Sound E.count E.num wide preamble.now state.old memory.old → ((k : ℕ) → k < E.count → (E.num width k ≡ wide (meant preamble.now.text.now it word.now) k) × Within 1073741823 (E.num width k))
+        → Sound E.count E.num wide preamble.now state.new memory.new }
     ensures good { Good state.new memory.new preamble.now }
     ensures lens { lens_of memory.new ≡ lens_of memory.old }
 {
@@ -349,7 +349,7 @@ pub fn tab_in<E: Extent>(
     requires { Good state.old memory.old preamble.now }
     ensures answer { result ≡ tab_verdict (templates_of preamble.now) (room_in memory.old) (ledger_of preamble.now state.old memory.old) column }
     ensures ledger { ledger_of preamble.now state.new memory.new ≡ after result (ledger_of preamble.now state.old memory.old) (on_open (tabs (templates_of preamble.now) (ledger_of preamble.now state.old memory.old)) (ledger_of preamble.now state.old memory.old) (ledger_of preamble.now state.old memory.old).hand) }
-    ensures sound { (wide : Item → ℕ → ℤ) → Sound count num wide preamble.now state.old memory.old → Sound count num wide preamble.now state.new memory.new }
+    ensures sound { (wide : Item → ℕ → ℤ) → Sound E.count E.num wide preamble.now state.old memory.old → Sound E.count E.num wide preamble.now state.new memory.new }
     ensures good { Good state.new memory.new preamble.now }
     ensures lens { lens_of memory.new ≡ lens_of memory.old }
 {
@@ -378,7 +378,7 @@ pub fn span_in<E: Extent>(
     requires { Good state.old memory.old preamble.now }
     ensures answer { result ≡ span_verdict (templates_of preamble.now) (room_in memory.old) (ledger_of preamble.now state.old memory.old) column }
     ensures ledger { ledger_of preamble.now state.new memory.new ≡ after result (ledger_of preamble.now state.old memory.old) (on_open (carries (templates_of preamble.now) (ledger_of preamble.now state.old memory.old)) (ledger_of preamble.now state.old memory.old) (ledger_of preamble.now state.old memory.old).hand) }
-    ensures sound { (wide : Item → ℕ → ℤ) → Sound count num wide preamble.now state.old memory.old → Sound count num wide preamble.now state.new memory.new }
+    ensures sound { (wide : Item → ℕ → ℤ) → Sound E.count E.num wide preamble.now state.old memory.old → Sound E.count E.num wide preamble.now state.new memory.new }
     ensures good { Good state.new memory.new preamble.now }
     ensures lens { lens_of memory.new ≡ lens_of memory.old }
 {
@@ -399,11 +399,11 @@ pub fn rule_in<E: Extent>(
     preamble: &Preamble<E>,
     line: LineRecord,
 ) -> Option<Fault>
-    requires good_2 { Good state.old memory.old preamble.now }
-    requires line_value { rowed line ≡ 0 }
+    requires good { Good state.old memory.old preamble.now }
+    requires bare { rowed line ≡ 0 }
     ensures answer { result ≡ rule_verdict (templates_of preamble.now) (room_in memory.old) (ledger_of preamble.now state.old memory.old) }
     ensures ledger { ledger_of preamble.now state.new memory.new ≡ after result (ledger_of preamble.now state.old memory.old) (ruled_by (line_of line []) (ledger_of preamble.now state.old memory.old)) }
-    ensures sound { (wide : Item → ℕ → ℤ) → Sound count num wide preamble.now state.old memory.old → Sound count num wide preamble.now state.new memory.new }
+    ensures sound { (wide : Item → ℕ → ℤ) → Sound E.count E.num wide preamble.now state.old memory.old → Sound E.count E.num wide preamble.now state.new memory.new }
     ensures good { Good state.new memory.new preamble.now }
     ensures lens { lens_of memory.new ≡ lens_of memory.old }
 {
@@ -434,7 +434,7 @@ pub fn give_up_in<E: Extent>(
 )
     requires { Good state.old memory.old preamble.now }
     ensures ledger { ledger_of preamble.now state.new memory.new ≡ gives_up (if fresh then fresh_at column (ledger_of preamble.now state.old memory.old).hand else begun_at column (ledger_of preamble.now state.old memory.old).hand) (ledger_of preamble.now state.old memory.old) }
-    ensures sound { (wide : Item → ℕ → ℤ) → Sound count num wide preamble.now state.old memory.old → Sound count num wide preamble.now state.new memory.new }
+    ensures sound { (wide : Item → ℕ → ℤ) → Sound E.count E.num wide preamble.now state.old memory.old → Sound E.count E.num wide preamble.now state.new memory.new }
     ensures good { Good state.new memory.new preamble.now }
     ensures lens { lens_of memory.new ≡ lens_of memory.old }
 {
@@ -463,9 +463,9 @@ pub fn start_in<E: Extent>(
     column: usize,
 ) -> Option<Fault>
     requires { Good state.old memory.old preamble.now }
-    ensures answer { (wide : Item → ℕ → ℤ) → Sound count num wide preamble.now state.old memory.old → result ≡ start_verdict count wide (templates_of preamble.now) (ledger_of preamble.now state.old memory.old) column }
+    ensures answer { (wide : Item → ℕ → ℤ) → Sound E.count E.num wide preamble.now state.old memory.old → result ≡ start_verdict E.count wide (templates_of preamble.now) (ledger_of preamble.now state.old memory.old) column }
     ensures ledger { ledger_of preamble.now state.new memory.new ≡ after result (ledger_of preamble.now state.old memory.old) (on_open (starts (templates_of preamble.now) (ledger_of preamble.now state.old memory.old)) (ledger_of preamble.now state.old memory.old) (ledger_of preamble.now state.old memory.old).hand) }
-    ensures sound { (wide : Item → ℕ → ℤ) → Sound count num wide preamble.now state.old memory.old → Sound count num wide preamble.now state.new memory.new }
+    ensures sound { (wide : Item → ℕ → ℤ) → Sound E.count E.num wide preamble.now state.old memory.old → Sound E.count E.num wide preamble.now state.new memory.new }
     ensures good { Good state.new memory.new preamble.now }
     ensures lens { lens_of memory.new ≡ lens_of memory.old }
 {

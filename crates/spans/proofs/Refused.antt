@@ -1,8 +1,8 @@
 -- What no refusal says. Assumes nothing.
-use Rattle.std.proofs.Common.{◌≡◌, ℕ, ◌+◌, ◌*◌, ◌<◌, ◌≤◌, Bool, true, false, ◌&&◌, List, [], ◌∷◌, length, get_or, drop, Some, None, sym, refl, ap, ◌∙◌, subst, arith}
+use Rattle.std.proofs.Common.{◌≡◌, ℕ, ◌+◌, ◌*◌, ◌<◌, ◌≤◌, Bool, true, false, ◌&&◌, List, [], ◌∷◌, map, length, get_or, drop, Some, None, sym, refl, ap, ◌∙◌, subst, arith}
 use Rattle.std.proofs.lemmas.Bool.Decides.{nat_tests}
 use Rattle.std.proofs.lemmas.Bool.{and_parts, and_left, leb-true, ltb-true}
-use Rattle.std.proofs.lemmas.List.{at_drop_more}
+use Rattle.std.proofs.lemmas.List.{at_drop_more, get_or-map, length-map}
 use Rattle.std.proofs.ByRecursion.{All-get_or}
 use Rattle.widths.specs.declared.Entry.{Entry}
 use Rattle.widths.specs.Entries.{Proper}
@@ -47,3 +47,9 @@ all_lie-stop n es i e lt is h =
 pub proper-at : {E : Type 0} (n : ℕ) (es : List (Entry E)) (i : ℕ) (e : Entry E) → i < length es → e ≡ get_or es i e → Proper n es → (e.first ≤ e.last) × (e.last < n)
 proper-at n es i e lt is h =
     subst (λ x. (x.first ≤ x.last) × (x.last < n)) (sym is) (All-get_or (λ x. (x.first ≤ x.last) × (x.last < n)) es i e lt h)
+
+-- the entry that the record in hand stands for
+pub spanned-at : {X Y : Type 0} (f : X → Y) (xs : List X) (i : ℕ) (x : X) (y : Y) → i < length xs → x ≡ get_or xs i x → y ≡ f x → (i < length (map f xs)) × (y ≡ get_or (map f xs) i y)
+spanned-at f xs i x y lt is e =
+    let l = length-map xs f in
+    (omega arith, e ∙ ap f is ∙ sym (get_or-map f xs i x y lt))

@@ -3,5 +3,6 @@
 
 pub mod edges;
 pub mod merge;
+pub mod records;
 pub mod settle;
 pub mod table;

@@ -8,7 +8,7 @@ use crate::table::{Misfit, SpanTable, empty_cells, widen};
 use extent::Extent;
 use widths::Entry;
 
-fn lies<E: Extent>(columns: usize, entry: Entry<E>) -> bool
+pub(crate) fn lies<E: Extent>(columns: usize, entry: Entry<E>) -> bool
     ensures { result ≡ lie columns entry }
 {
     entry.first <= entry.last && entry.last < columns

@@ -53,8 +53,8 @@ fn width_at<E: Extent>(
     requires few { length preamble.now.columns.now ≤ 32 }
     requires room { (1024 ≤ length cells.old) × ((32 ≤ length widths.old) × (length preamble.now.columns.now < length gaps.now)) }
     requires index { index < length preamble.now.columns.now }
-    ensures merged { (wide : Item → ℕ → ℤ) → Sound count num wide preamble.now state.now memory.now → ((j : ℕ) → Within 16777215 (slice_index_or gaps.now j (pos 0)))
-        → (k : ℕ) → k < count → seen num k result ≡ width (widest (map (natural_by wide k) (laid_entries (ledger_of preamble.now state.now memory.now)))) (after entered k gaps.now) index }
+    ensures merged { (wide : Item → ℕ → ℤ) → Sound E.count E.num wide preamble.now state.now memory.now → ((j : ℕ) → Within 16777215 (slice_index_or gaps.now j (pos 0)))
+        → (k : ℕ) → k < E.count → seen E.num k result ≡ width (widest (map (natural_by wide k) (laid_entries (ledger_of preamble.now state.now memory.now)))) (after E.entered k gaps.now) index }
 {
     let _ = ask_in(state, memory, preamble, gaps, cells, widths);
     widths[index]
@@ -72,8 +72,8 @@ fn width_in<E: Extent>(
     requires few { length preamble.now.columns.now ≤ 32 }
     requires gaps { length preamble.now.gaps.now ≡ length preamble.now.columns.now + 1 }
     requires index { index < length preamble.now.columns.now }
-    ensures merged { (wide : Item → ℕ → ℤ) → Sound count num wide preamble.now state.now memory.now
-        → (k : ℕ) → k < count → seen num k result ≡ width (widest (map (natural_by wide k) (laid_entries (ledger_of preamble.now state.now memory.now)))) (after entered k (map natural_in preamble.now.gaps.now)) index }
+    ensures merged { (wide : Item → ℕ → ℤ) → Sound E.count E.num wide preamble.now state.now memory.now
+        → (k : ℕ) → k < E.count → seen E.num k result ≡ width (widest (map (natural_by wide k) (laid_entries (ledger_of preamble.now state.now memory.now)))) (after E.entered k (map natural_in preamble.now.gaps.now)) index }
 {
     let gaps = preamble.gaps;
     let lengths = &mut work.lengths;

@@ -23,8 +23,8 @@ impl<'a, 'p, 'm, M: Measurer> Table<'a, 'p, 'm, M> {
     pub fn rule(&mut self) -> Result<(), Fault>
         ensures answer { result ≡ unless (rule_verdict (templates_in self.old) (room_of self.old) (ledger_in self.old)) tt }
         ensures ledger { ledger_in self.new ≡ followed result (ledger_in self.old) (ruled_by rule (ledger_in self.old)) }
-        ensures meant { ByMeaning Extent-as-Extent.count Extent-as-Extent.num Extent-as-Extent.entered M.Measurer.meaning M.Measurer.blank self.old
-            → ByMeaning Extent-as-Extent.count Extent-as-Extent.num Extent-as-Extent.entered M.Measurer.meaning M.Measurer.blank self.new }
+        ensures meant { ByMeaning M.Extent.Extent.count M.Extent.Extent.num M.Extent.Extent.entered M.Measurer.meaning M.Measurer.blank self.old
+            → ByMeaning M.Extent.Extent.count M.Extent.Extent.num M.Extent.Extent.entered M.Measurer.meaning M.Measurer.blank self.new }
         ensures kept { Kept self.old self.new }
     {
         match rule_in(
@@ -42,8 +42,8 @@ impl<'a, 'p, 'm, M: Measurer> Table<'a, 'p, 'm, M> {
     pub fn gap(&mut self, sp: i64) -> Result<(), Fault>
         ensures answer { result ≡ unless (gap_verdict (templates_in self.old) (room_of self.old) (ledger_in self.old) sp) tt }
         ensures ledger { ledger_in self.new ≡ followed result (ledger_in self.old) (ruled_by (gap sp) (ledger_in self.old)) }
-        ensures meant { ByMeaning Extent-as-Extent.count Extent-as-Extent.num Extent-as-Extent.entered M.Measurer.meaning M.Measurer.blank self.old
-            → ByMeaning Extent-as-Extent.count Extent-as-Extent.num Extent-as-Extent.entered M.Measurer.meaning M.Measurer.blank self.new }
+        ensures meant { ByMeaning M.Extent.Extent.count M.Extent.Extent.num M.Extent.Extent.entered M.Measurer.meaning M.Measurer.blank self.old
+            → ByMeaning M.Extent.Extent.count M.Extent.Extent.num M.Extent.Extent.entered M.Measurer.meaning M.Measurer.blank self.new }
         ensures kept { Kept self.old self.new }
     {
         if is_open(self.state.stage) {

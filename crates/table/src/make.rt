@@ -57,8 +57,8 @@ fn blank<E: Extent>(templates: &mut Templates<E>) -> Read
     ensures answer { result ≡ record { columns = 1; pieces = 0; bytes = 0 } }
     ensures columns { take 1 templates.new.columns ≡ record { from = 0; u = 0; v = 0 } ∷ [] }
     ensures gaps { map parts_of (take 2 templates.new.gaps) ≡ no_gap ∷ no_gap ∷ [] }
-    ensures us { (k : ℕ) → k < count → map (u_stored num k) (take 1 templates.new.widths) ≡ pos 0 ∷ [] }
-    ensures vs { (k : ℕ) → k < count → map (v_stored num k) (take 1 templates.new.widths) ≡ pos 0 ∷ [] }
+    ensures us { (k : ℕ) → k < E.count → map (u_stored E.num k) (take 1 templates.new.widths) ≡ pos 0 ∷ [] }
+    ensures vs { (k : ℕ) → k < E.count → map (v_stored E.num k) (take 1 templates.new.widths) ≡ pos 0 ∷ [] }
 {
     templates.columns[0] = Column {
         from: 0,

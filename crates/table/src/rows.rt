@@ -16,8 +16,8 @@ impl<'a, 'p, 'm, M: Measurer> Table<'a, 'p, 'm, M> {
     pub fn take(&mut self) -> Result<Fresh, Fault>
         ensures answer { result ≡ unless (take_verdict (templates_in self.old) (room_of self.old) (ledger_in self.old)) (fresh_cell 0) }
         ensures ledger { ledger_in self.new ≡ followed result (ledger_in self.old) (opened (ledger_in self.old)) }
-        ensures meant { ByMeaning Extent-as-Extent.count Extent-as-Extent.num Extent-as-Extent.entered M.Measurer.meaning M.Measurer.blank self.old
-            → ByMeaning Extent-as-Extent.count Extent-as-Extent.num Extent-as-Extent.entered M.Measurer.meaning M.Measurer.blank self.new }
+        ensures meant { ByMeaning M.Extent.Extent.count M.Extent.Extent.num M.Extent.Extent.entered M.Measurer.meaning M.Measurer.blank self.old
+            → ByMeaning M.Extent.Extent.count M.Extent.Extent.num M.Extent.Extent.entered M.Measurer.meaning M.Measurer.blank self.new }
         ensures kept { Kept self.old self.new }
     {
         match take_in(&mut self.state, &mut self.memory, &self.preamble) {
@@ -30,8 +30,8 @@ impl<'a, 'p, 'm, M: Measurer> Table<'a, 'p, 'm, M> {
     pub fn omit(&mut self, cell: Fresh) -> Result<Begun, Refusal<Fresh>>
         ensures answer { result ≡ handing cell (omit_verdict (ledger_in self.old) cell.column) (begun_cell cell.column) }
         ensures ledger { ledger_in self.new ≡ followed result (ledger_in self.old) (on_open (omits (ledger_in self.old)) (ledger_in self.old) (ledger_in self.old).hand) }
-        ensures meant { ByMeaning Extent-as-Extent.count Extent-as-Extent.num Extent-as-Extent.entered M.Measurer.meaning M.Measurer.blank self.old
-            → ByMeaning Extent-as-Extent.count Extent-as-Extent.num Extent-as-Extent.entered M.Measurer.meaning M.Measurer.blank self.new }
+        ensures meant { ByMeaning M.Extent.Extent.count M.Extent.Extent.num M.Extent.Extent.entered M.Measurer.meaning M.Measurer.blank self.old
+            → ByMeaning M.Extent.Extent.count M.Extent.Extent.num M.Extent.Extent.entered M.Measurer.meaning M.Measurer.blank self.new }
         ensures kept { Kept self.old self.new }
     {
         match omit_in(
@@ -50,11 +50,11 @@ impl<'a, 'p, 'm, M: Measurer> Table<'a, 'p, 'm, M> {
 
     /// Begins the cell with its template's u part.
     pub fn start(&mut self, cell: Fresh) -> Result<Begun, Refusal<Fresh>>
-        ensures answer { ByMeaning Extent-as-Extent.count Extent-as-Extent.num Extent-as-Extent.entered M.Measurer.meaning M.Measurer.blank self.old
-            → result ≡ handing cell (start_verdict Extent-as-Extent.count (wide_in Extent-as-Extent.count Extent-as-Extent.num Extent-as-Extent.entered M.Measurer.meaning M.Measurer.blank self.old) (templates_in self.old) (ledger_in self.old) cell.column) (begun_cell cell.column) }
+        ensures answer { ByMeaning M.Extent.Extent.count M.Extent.Extent.num M.Extent.Extent.entered M.Measurer.meaning M.Measurer.blank self.old
+            → result ≡ handing cell (start_verdict M.Extent.Extent.count (wide_in M.Extent.Extent.count M.Extent.Extent.num M.Extent.Extent.entered M.Measurer.meaning M.Measurer.blank self.old) (templates_in self.old) (ledger_in self.old) cell.column) (begun_cell cell.column) }
         ensures ledger { ledger_in self.new ≡ followed result (ledger_in self.old) (on_open (starts (templates_in self.old) (ledger_in self.old)) (ledger_in self.old) (ledger_in self.old).hand) }
-        ensures meant { ByMeaning Extent-as-Extent.count Extent-as-Extent.num Extent-as-Extent.entered M.Measurer.meaning M.Measurer.blank self.old
-            → ByMeaning Extent-as-Extent.count Extent-as-Extent.num Extent-as-Extent.entered M.Measurer.meaning M.Measurer.blank self.new }
+        ensures meant { ByMeaning M.Extent.Extent.count M.Extent.Extent.num M.Extent.Extent.entered M.Measurer.meaning M.Measurer.blank self.old
+            → ByMeaning M.Extent.Extent.count M.Extent.Extent.num M.Extent.Extent.entered M.Measurer.meaning M.Measurer.blank self.new }
         ensures kept { Kept self.old self.new }
     {
         match start_in(
@@ -75,8 +75,8 @@ impl<'a, 'p, 'm, M: Measurer> Table<'a, 'p, 'm, M> {
     pub fn tab(&mut self, cell: Begun) -> Result<Fresh, Refusal<Begun>>
         ensures answer { result ≡ handing cell (tab_verdict (templates_in self.old) (room_of self.old) (ledger_in self.old) cell.column) (fresh_cell (cell.column + 1)) }
         ensures ledger { ledger_in self.new ≡ followed result (ledger_in self.old) (on_open (tabs (templates_in self.old) (ledger_in self.old)) (ledger_in self.old) (ledger_in self.old).hand) }
-        ensures meant { ByMeaning Extent-as-Extent.count Extent-as-Extent.num Extent-as-Extent.entered M.Measurer.meaning M.Measurer.blank self.old
-            → ByMeaning Extent-as-Extent.count Extent-as-Extent.num Extent-as-Extent.entered M.Measurer.meaning M.Measurer.blank self.new }
+        ensures meant { ByMeaning M.Extent.Extent.count M.Extent.Extent.num M.Extent.Extent.entered M.Measurer.meaning M.Measurer.blank self.old
+            → ByMeaning M.Extent.Extent.count M.Extent.Extent.num M.Extent.Extent.entered M.Measurer.meaning M.Measurer.blank self.new }
         ensures kept { Kept self.old self.new }
     {
         match tab_in(
@@ -97,8 +97,8 @@ impl<'a, 'p, 'm, M: Measurer> Table<'a, 'p, 'm, M> {
     pub fn span(&mut self, cell: Begun) -> Result<Fresh, Refusal<Begun>>
         ensures answer { result ≡ handing cell (span_verdict (templates_in self.old) (room_of self.old) (ledger_in self.old) cell.column) (fresh_cell (cell.column + 1)) }
         ensures ledger { ledger_in self.new ≡ followed result (ledger_in self.old) (on_open (carries (templates_in self.old) (ledger_in self.old)) (ledger_in self.old) (ledger_in self.old).hand) }
-        ensures meant { ByMeaning Extent-as-Extent.count Extent-as-Extent.num Extent-as-Extent.entered M.Measurer.meaning M.Measurer.blank self.old
-            → ByMeaning Extent-as-Extent.count Extent-as-Extent.num Extent-as-Extent.entered M.Measurer.meaning M.Measurer.blank self.new }
+        ensures meant { ByMeaning M.Extent.Extent.count M.Extent.Extent.num M.Extent.Extent.entered M.Measurer.meaning M.Measurer.blank self.old
+            → ByMeaning M.Extent.Extent.count M.Extent.Extent.num M.Extent.Extent.entered M.Measurer.meaning M.Measurer.blank self.new }
         ensures kept { Kept self.old self.new }
     {
         match span_in(
@@ -119,8 +119,8 @@ impl<'a, 'p, 'm, M: Measurer> Table<'a, 'p, 'm, M> {
     pub fn lay(&mut self, cell: Begun) -> Result<(), Refusal<Begun>>
         ensures answer { result ≡ handing cell (lay_verdict (ledger_in self.old) cell.column) tt }
         ensures ledger { ledger_in self.new ≡ followed result (ledger_in self.old) (on_open (lays (templates_in self.old) (ledger_in self.old)) (ledger_in self.old) (ledger_in self.old).hand) }
-        ensures meant { ByMeaning Extent-as-Extent.count Extent-as-Extent.num Extent-as-Extent.entered M.Measurer.meaning M.Measurer.blank self.old
-            → ByMeaning Extent-as-Extent.count Extent-as-Extent.num Extent-as-Extent.entered M.Measurer.meaning M.Measurer.blank self.new }
+        ensures meant { ByMeaning M.Extent.Extent.count M.Extent.Extent.num M.Extent.Extent.entered M.Measurer.meaning M.Measurer.blank self.old
+            → ByMeaning M.Extent.Extent.count M.Extent.Extent.num M.Extent.Extent.entered M.Measurer.meaning M.Measurer.blank self.new }
         ensures kept { Kept self.old self.new }
     {
         match lay_in(
@@ -140,8 +140,8 @@ impl<'a, 'p, 'm, M: Measurer> Table<'a, 'p, 'm, M> {
     /// Gives the row up if this is its cell; else the cell is just spent.
     pub fn give_up(&mut self, cell: Fresh)
         ensures ledger { ledger_in self.new ≡ gives_up (fresh_at cell.column (ledger_in self.old).hand) (ledger_in self.old) }
-        ensures meant { ByMeaning Extent-as-Extent.count Extent-as-Extent.num Extent-as-Extent.entered M.Measurer.meaning M.Measurer.blank self.old
-            → ByMeaning Extent-as-Extent.count Extent-as-Extent.num Extent-as-Extent.entered M.Measurer.meaning M.Measurer.blank self.new }
+        ensures meant { ByMeaning M.Extent.Extent.count M.Extent.Extent.num M.Extent.Extent.entered M.Measurer.meaning M.Measurer.blank self.old
+            → ByMeaning M.Extent.Extent.count M.Extent.Extent.num M.Extent.Extent.entered M.Measurer.meaning M.Measurer.blank self.new }
         ensures kept { Kept self.old self.new }
     {
         let Fresh { column } = cell;
@@ -157,8 +157,8 @@ impl<'a, 'p, 'm, M: Measurer> Table<'a, 'p, 'm, M> {
     /// Gives the row up if this is its cell; else the cell is just spent.
     pub fn give_up_begun(&mut self, cell: Begun)
         ensures ledger { ledger_in self.new ≡ gives_up (begun_at cell.column (ledger_in self.old).hand) (ledger_in self.old) }
-        ensures meant { ByMeaning Extent-as-Extent.count Extent-as-Extent.num Extent-as-Extent.entered M.Measurer.meaning M.Measurer.blank self.old
-            → ByMeaning Extent-as-Extent.count Extent-as-Extent.num Extent-as-Extent.entered M.Measurer.meaning M.Measurer.blank self.new }
+        ensures meant { ByMeaning M.Extent.Extent.count M.Extent.Extent.num M.Extent.Extent.entered M.Measurer.meaning M.Measurer.blank self.old
+            → ByMeaning M.Extent.Extent.count M.Extent.Extent.num M.Extent.Extent.entered M.Measurer.meaning M.Measurer.blank self.new }
         ensures kept { Kept self.old self.new }
     {
         let Begun { column } = cell;

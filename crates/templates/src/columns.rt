@@ -19,7 +19,7 @@ const MOST_COLUMNS: usize = 32;
 
 /// On to a place, with nothing else changed.
 pub(crate) fn skip<E: Extent>(hand: Hand<E>, end: usize) -> Next<E>
-    ensures { (text : List ℕ) (wide : Item → ℕ → ℤ) (t : Templates E) → hand.place < end → end ≤ length text → Turns count num wide text hand t (skipping (reading_of text hand t) end) t result }
+    ensures { (text : List ℕ) (wide : Item → ℕ → ℤ) (t : Templates E) → hand.place < end → end ≤ length text → Turns E.count E.num wide text hand t (skipping (reading_of text hand t) end) t result }
 {
     Next::GoesOn(Hand { place: end, ..hand })
 }
@@ -33,7 +33,7 @@ fn is_whole<E: Copy>(hand: Hand<E>) -> bool
 
 /// `#` stands once in a template.
 pub(crate) fn mark<E: Extent>(hand: Hand<E>, end: usize) -> Next<E>
-    ensures { (text : List ℕ) (wide : Item → ℕ → ℤ) (t : Templates E) → hand.place < end → end ≤ length text → Turns count num wide text hand t (hashed (reading_of text hand t) end) t result }
+    ensures { (text : List ℕ) (wide : Item → ℕ → ℤ) (t : Templates E) → hand.place < end → end ≤ length text → Turns E.count E.num wide text hand t (hashed (reading_of text hand t) end) t result }
 {
     if is_whole(hand) {
         return Next::Refuses(Cause::TemplateMark.at(hand.place));
@@ -47,7 +47,7 @@ pub(crate) fn mark<E: Extent>(hand: Hand<E>, end: usize) -> Next<E>
 
 /// The glue behind `\tabskip` is the gap from here on.
 pub(crate) fn take_gap<E: Extent>(hand: Hand<E>, text: &[u8], end: usize) -> Next<E>
-    ensures { (wide : Item → ℕ → ℤ) (t : Templates E) → hand.place < end → Turns count num wide text.now hand t (gap_taken (reading_of text.now hand t) (glue_at text.now end)) t result }
+    ensures { (wide : Item → ℕ → ℤ) (t : Templates E) → hand.place < end → Turns E.count E.num wide text.now hand t (gap_taken (reading_of text.now hand t) (glue_at text.now end)) t result }
 {
     match glue_at(text, end) {
         Ok(glue) => Next::GoesOn(Hand {
@@ -82,7 +82,7 @@ fn read_upto<E: Copy>(hand: Hand<E>, end: usize) -> Read
 /// `&` ends a template that has its `#`, and begins the next column.
 pub(crate) fn next_column<E: Extent>(into: &mut Templates<E>, hand: Hand<E>, end: usize) -> Next<E>
     requires { Fits hand into.old }
-    ensures { (text : List ℕ) (wide : Item → ℕ → ℤ) → hand.place < end → end ≤ length text → Turns count num wide text hand into.old (parted (reading_of text hand into.old) end) into.new result }
+    ensures { (text : List ℕ) (wide : Item → ℕ → ℤ) → hand.place < end → end ≤ length text → Turns E.count E.num wide text hand into.old (parted (reading_of text hand into.old) end) into.new result }
 {
     if !is_whole(hand) {
         return Next::Refuses(Cause::TemplateMark.at(hand.place));
@@ -109,7 +109,7 @@ pub(crate) fn next_column<E: Extent>(into: &mut Templates<E>, hand: Hand<E>, end
 /// `\cr` ends the last template and the preamble.
 pub(crate) fn last_column<E: Extent>(into: &mut Templates<E>, hand: Hand<E>, end: usize) -> Next<E>
     requires { Fits hand into.old }
-    ensures { (text : List ℕ) (wide : Item → ℕ → ℤ) → hand.place < end → end ≤ length text → Turns count num wide text hand into.old (ended (reading_of text hand into.old) end) into.new result }
+    ensures { (text : List ℕ) (wide : Item → ℕ → ℤ) → hand.place < end → end ≤ length text → Turns E.count E.num wide text hand into.old (ended (reading_of text hand into.old) end) into.new result }
 {
     if !is_whole(hand) {
         return Next::Refuses(Cause::TemplateMark.at(hand.place));

@@ -26,7 +26,7 @@ fn is_full(items: usize) -> bool
 fn add_u<E: Extent>(into: &mut Templates<E>, hand: Hand<E>, piece: Piece<E>) -> Next<E>
     requires fits { Fits hand into.old }
     requires before { hand.marked ≡ false }
-    ensures { (text : List ℕ) (wide : Item → ℕ → ℤ) → Suits count num wide text hand.place piece → Turns count num wide text hand into.old (taking (reading_of text hand into.old) (meant text piece.item []) piece.last piece.end) into.new result }
+    ensures { (text : List ℕ) (wide : Item → ℕ → ℤ) → Suits E.count E.num wide text hand.place piece → Turns E.count E.num wide text hand into.old (taking (reading_of text hand into.old) (meant text piece.item []) piece.last piece.end) into.new result }
 {
     if is_full(hand.u) {
         return Next::Refuses(Cause::Full.at(piece.last));
@@ -48,7 +48,7 @@ fn add_u<E: Extent>(into: &mut Templates<E>, hand: Hand<E>, piece: Piece<E>) -> 
 fn add_v<E: Extent>(into: &mut Templates<E>, hand: Hand<E>, piece: Piece<E>) -> Next<E>
     requires fits { Fits hand into.old }
     requires behind { hand.marked ≡ true }
-    ensures { (text : List ℕ) (wide : Item → ℕ → ℤ) → Suits count num wide text hand.place piece → Turns count num wide text hand into.old (taking (reading_of text hand into.old) (meant text piece.item []) piece.last piece.end) into.new result }
+    ensures { (text : List ℕ) (wide : Item → ℕ → ℤ) → Suits E.count E.num wide text hand.place piece → Turns E.count E.num wide text hand into.old (taking (reading_of text hand into.old) (meant text piece.item []) piece.last piece.end) into.new result }
 {
     if is_full(hand.v) {
         return Next::Refuses(Cause::Full.at(piece.last));
@@ -73,7 +73,7 @@ pub(crate) fn take_item<E: Extent>(
     piece: Piece<E>,
 ) -> Next<E>
     requires { Fits hand into.old }
-    ensures { (text : List ℕ) (wide : Item → ℕ → ℤ) → Suits count num wide text hand.place piece → Turns count num wide text hand into.old (taking (reading_of text hand into.old) (meant text piece.item []) piece.last piece.end) into.new result }
+    ensures { (text : List ℕ) (wide : Item → ℕ → ℤ) → Suits E.count E.num wide text hand.place piece → Turns E.count E.num wide text hand into.old (taking (reading_of text hand into.old) (meant text piece.item []) piece.last piece.end) into.new result }
 {
     if hand.marked {
         add_v(into, hand, piece)

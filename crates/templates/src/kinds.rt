@@ -21,7 +21,7 @@ use measure::{Measurer, Metrics};
 /// A fill has no width.
 pub(crate) fn add_fill<E: Extent>(into: &mut Templates<E>, hand: Hand<E>, end: usize) -> Next<E>
     requires { Fits hand into.old }
-    ensures { (text : List ℕ) (wide : Item → ℕ → ℤ) → Sized count wide text → ((k : ℕ) → wide hfil k ≡ pos 0) → hand.place < end → end ≤ length text → Turns count num wide text hand into.old (taking (reading_of text hand into.old) hfil hand.place end) into.new result }
+    ensures { (text : List ℕ) (wide : Item → ℕ → ℤ) → Sized E.count wide text → ((k : ℕ) → wide hfil k ≡ pos 0) → hand.place < end → end ≤ length text → Turns E.count E.num wide text hand into.old (taking (reading_of text hand into.old) hfil hand.place end) into.new result }
 {
     let piece = Piece {
         item: ItemRecord::Hfil,
@@ -40,7 +40,7 @@ pub(crate) fn add_kern<E: Extent>(
     end: usize,
 ) -> Next<E>
     requires { Fits hand into.old }
-    ensures { (wide : Item → ℕ → ℤ) → Sized count wide text.now → ((k : ℕ) (z : ℤ) → wide (kern z) k ≡ entered k z) → hand.place < end → Turns count num wide text.now hand into.old (kern_taken (reading_of text.now hand into.old) end (length_at text.now end)) into.new result }
+    ensures { (wide : Item → ℕ → ℤ) → Sized E.count wide text.now → ((k : ℕ) (z : ℤ) → wide (kern z) k ≡ E.entered k z) → hand.place < end → Turns E.count E.num wide text.now hand into.old (kern_taken (reading_of text.now hand into.old) end (length_at text.now end)) into.new result }
 {
     match length_at(text, end) {
         Ok(length) => {

@@ -24,7 +24,7 @@ fn take_control<E: Extent>(
     end: usize,
 ) -> Next<E>
     requires { Fits hand into.old }
-    ensures { (wide : Item → ℕ → ℤ) → Sized count wide text.now → ((k : ℕ) (z : ℤ) → wide (kern z) k ≡ entered k z) → ((k : ℕ) → wide hfil k ≡ pos 0) → hand.place < end → end ≤ length text.now → Turns count num wide text.now hand into.old (by_control text.now unmeant (reading_of text.now hand into.old) end control) into.new result }
+    ensures { (wide : Item → ℕ → ℤ) → Sized E.count wide text.now → ((k : ℕ) (z : ℤ) → wide (kern z) k ≡ E.entered k z) → ((k : ℕ) → wide hfil k ≡ pos 0) → hand.place < end → end ≤ length text.now → Turns E.count E.num wide text.now hand into.old (by_control text.now unmeant (reading_of text.now hand into.old) end control) into.new result }
 {
     match control {
         Control::Kern => add_kern(into, hand, text, end),

@@ -7,15 +7,15 @@ use Rattle.ledger.proofs.sums.outside.Goals as goal
 pub loop-k-init : goal.loop-k-init
 loop-k-init g c = beyond-none (g.E.Extent.num c.args.w)
 
-pub returns-then-side-out : goal.returns-then-side-out
-returns-then-side-out g c =
+pub returns-then-side_out : goal.returns-then-side_out
+returns-then-side_out g c =
     let lt : c.loop-k.k < g.E.Extent.count = omega arith in
-    sym (beyond-at g.E.Extent.count c.loop-k.k (g.E.Extent.num c.args.w) lt (sym (c.if-side-out.ensures lt)))
+    sym (beyond-at g.E.Extent.count c.loop-k.k (g.E.Extent.num c.args.w) lt (sym (c.if-side_out.ensures lt)))
 
 pub loop-k-preserved : goal.loop-k-preserved
 loop-k-preserved g c =
     let lt : c.loop-k.k < g.E.Extent.count = omega arith in
-    beyond-more c.loop-k.k (g.E.Extent.num c.args.w) (sym (c.if-side-out.ensures lt)) c.loop-k.invariant
+    beyond-more c.loop-k.k (g.E.Extent.num c.args.w) (sym (c.if-side_out.ensures lt)) c.loop-k.invariant
 
 pub returns : goal.returns
 returns g c =

@@ -20,16 +20,16 @@ returns g c = record {
       let n = length c.args.preamble.now.columns.now in
       let le = s.laid.entries in
       let whole : le - 0 ≡ le = omega arith in
-      let ok : c.settle-laid.result ≡ Ok tt =
-      c.settle-laid.ensures.answer
+      let ok : c.settle_laid.result ≡ Ok tt =
+      c.settle_laid.ensures.answer
       ∙ ap (λ (i : ℕ). unless {X = Unit {0}} (settle_fault n (length c.args.cells.now) (length c.args.widths.now) (length c.args.gaps.now) (map span_of (take i es))) tt) whole
       ∙ asks-fine n (length c.args.cells.now) (length c.args.widths.now) (length c.args.gaps.now) (take le es) c.requires.good.some c.requires.few (omega arith) (omega arith) (omega arith)
       (all_laid (Lies n) le es sound.lies) in (
         ok,
         λ k kc.
-            subst (λ (xs : List (Sized ℤ)). Settled xs (starting X.entered k c.args.gaps.now) (after X.entered k c.args.gaps.now) n (column X.num k c.settle-laid.new.widths))
+            subst (λ (xs : List (Sized ℤ)). Settled xs (starting X.entered k c.args.gaps.now) (after X.entered k c.args.gaps.now) n (column X.num k c.settle_laid.new.widths))
             (ap (λ (i : ℕ). on_side X.num k (map span_of (take i es))) whole ∙ sides-stored X.num k (take le es) ∙ sound.laid k kc)
-            (c.settle-laid.ensures.settled (ap is_ok ok) k kc
+            (c.settle_laid.ensures.settled (ap is_ok ok) k kc
             (record {
               entries = subst (λ (i : ℕ). AllByRecursion (λ e. Within 1073741823 e.width) (on_side X.num k (map span_of (take i es)))) (sym whole)
                   (tame_entries X.num k 1073741823 (take le es) (all_laid (λ (r : EntryRecord g.row.E.Denot). Within 1073741823 (X.num r.width k)) le es (λ t d lt. sound.sized k t d kc lt)));

@@ -21,7 +21,7 @@ returns-then-outside g c =
     record {
       answer = λ wide sound it. add_verdict_lem X.count wide (templates_of q) (room_in m) (ledger_of q s m) a (X.num c.sum.result) true
           (lacking (room_in m) (used_items (templates_of q) (ledger_of q s m) + 1) (used_entries (ledger_of q s m)) (used_lines (ledger_of q s m)) (used_text (ledger_of q s m) + bytes_in a))
-          (all-is X.count X.num wide q s m sound c.requires.begun lt c.v-width-owed.result c.v-width-owed.ensures.begun c.v-width-owed.ensures.rest c.args.width c.sum-sum.result c.sum.result a c.sum-sum.ensures c.sum.ensures it)
+          (all-is X.count X.num wide q s m sound c.requires.begun lt c.v_width-owed.result c.v_width-owed.ensures.begun c.v_width-owed.ensures.rest c.args.width c.sum-sum.result c.sum.result a c.sum-sum.ensures c.sum.ensures it)
           c.if-outside.ensures refl;
       ledger = refl;
       good = c.requires.good;
@@ -42,12 +42,12 @@ returns-then-lacks g c =
     let k = c.requires.good.parts s.row.column lt in
     let X = g.E.Extent in
     let d = column_at q.columns.now s.row.column in
-    let full = c.if-lacks.ensures ∙ ap (λ (r : Room). lacking r (s.marks.items + c.owed-by.result + 1) (s.marks.entries + 1) (s.lines + 1) (s.marks.text + length w)) c.room-in-room.ensures
-    ∙ ap (λ (i : ℕ). lacking (room_in m) (s.marks.items + i + 1) (s.marks.entries + 1) (s.lines + 1) (s.marks.text + length w)) c.owed-by.ensures in
+    let full = c.if-lacks.ensures ∙ ap (λ (r : Room). lacking r (s.marks.items + c.owed_by.result + 1) (s.marks.entries + 1) (s.lines + 1) (s.marks.text + length w)) c.room_in-room.ensures
+    ∙ ap (λ (i : ℕ). lacking (room_in m) (s.marks.items + i + 1) (s.marks.entries + 1) (s.lines + 1) (s.marks.text + length w)) c.owed_by.ensures in
     let same = add_lacks q p s.lines s.laid s.marks s.row.begin m.lines.now m.entries.now m.items.now m.text.now c.requires.good.fit s.row.column s.row.first lt k s.stage c.requires.begun (room_in m) a (length w) (item-bytes p c.args.it w c.requires.bytes) in
     record {
       answer = λ wide sound it. add_verdict_lem X.count wide (templates_of q) (room_in m) (ledger_of q s m) a (X.num c.sum.result) false true
-          (all-is X.count X.num wide q s m sound c.requires.begun lt c.v-width-owed.result c.v-width-owed.ensures.begun c.v-width-owed.ensures.rest c.args.width c.sum-sum.result c.sum.result a c.sum-sum.ensures c.sum.ensures it)
+          (all-is X.count X.num wide q s m sound c.requires.begun lt c.v_width-owed.result c.v_width-owed.ensures.begun c.v_width-owed.ensures.rest c.args.width c.sum-sum.result c.sum.result a c.sum-sum.ensures c.sum.ensures it)
           c.if-outside.ensures (full ∙ sym same);
       ledger = refl;
       good = c.requires.good;
@@ -68,11 +68,11 @@ returns g c =
     let k = c.requires.good.parts s.row.column lt in
     let X = g.E.Extent in
     let d = column_at q.columns.now s.row.column in
-    let full = c.if-lacks.ensures ∙ ap (λ (r : Room). lacking r (s.marks.items + c.owed-by.result + 1) (s.marks.entries + 1) (s.lines + 1) (s.marks.text + length w)) c.room-in-room.ensures
-    ∙ ap (λ (i : ℕ). lacking (room_in m) (s.marks.items + i + 1) (s.marks.entries + 1) (s.lines + 1) (s.marks.text + length w)) c.owed-by.ensures in
+    let full = c.if-lacks.ensures ∙ ap (λ (r : Room). lacking r (s.marks.items + c.owed_by.result + 1) (s.marks.entries + 1) (s.lines + 1) (s.marks.text + length w)) c.room_in-room.ensures
+    ∙ ap (λ (i : ℕ). lacking (room_in m) (s.marks.items + i + 1) (s.marks.entries + 1) (s.lines + 1) (s.marks.text + length w)) c.owed_by.ensures in
     let same = add_lacks q p s.lines s.laid s.marks s.row.begin m.lines.now m.entries.now m.items.now m.text.now c.requires.good.fit s.row.column s.row.first lt k s.stage c.requires.begun (room_in m) a (length w) (item-bytes p c.args.it w c.requires.bytes) in
     let en = enough (room_in m) (s.marks.items + owed s.stage d + 1) (s.marks.entries + 1) (s.lines + 1) (s.marks.text + length w) (sym full) in
-    let e = c.add-item.ensures.state in
+    let e = c.add_item.ensures.state in
     let e1 = ap (λ (x : State g.row.E.Denot). x.marks.items) e in
     let e2 = ap (λ (x : State g.row.E.Denot). x.marks.entries) e in
     let e3 = ap (λ (x : State g.row.E.Denot). x.lines) e in
@@ -80,28 +80,28 @@ returns g c =
     let e5 = ap (λ (x : State g.row.E.Denot). x.row.column) e in
     let e6 = ap (λ (x : State g.row.E.Denot). x.stage) e in
     let e7 = ap (λ (x : State g.row.E.Denot). x.row.first) e in
-    let l = c.add-item.ensures.lens in
+    let l = c.add_item.ensures.lens in
     let l1 = ap (λ (x : Lens). x.items) l in
     let l2 = ap (λ (x : Lens). x.entries) l in
     let l3 = ap (λ (x : Lens). x.lines) l in
     let l4 = ap (λ (x : Lens). x.text) l in
     let n6 = ap one e6 in
     let n7 = ap (λ (x : State g.row.E.Denot). owed x.stage (column_at q.columns.now x.row.column)) e in
-    let s' = c.add-item.new.state in
-    let m' = c.add-item.new.memory in
+    let s' = c.add_item.new.state in
+    let m' = c.add_item.new.memory in
     let L = same-ledger s'.stage s.stage s'.row.column s.row.column s'.row.first s.row.first (held_of p s' m') e6 e5 e7
-    ∙ put_ledger s.stage s.row.column s.row.first (held_of p s m) (held_of p s' m') a c.requires.begun (c.add-item.ensures.held p) in
+    ∙ put_ledger s.stage s.row.column s.row.first (held_of p s m) (held_of p s' m') a c.requires.begun (c.add_item.ensures.held p) in
     record {
       sound = λ wide sound it. put_sound X.count X.num wide q s (record { lines = s'.lines; laid = s'.laid; marks = s'.marks; stage = s'.stage; row = record { column = s'.row.column; first = s'.row.first; begin = s'.row.begin; width = c.sum-sum.result } }) m m' sound c.requires.begun a (X.num c.sum.result) L
-          (sum_is X.count X.num wide q s m sound c.requires.begun lt c.v-width-owed.result c.v-width-owed.ensures.begun c.v-width-owed.ensures.rest c.args.width c.sum-sum.result c.sum.result a c.sum-sum.ensures c.sum.ensures it)
-          (all-is X.count X.num wide q s m sound c.requires.begun lt c.v-width-owed.result c.v-width-owed.ensures.begun c.v-width-owed.ensures.rest c.args.width c.sum-sum.result c.sum.result a c.sum-sum.ensures c.sum.ensures it)
-          (sym c.if-outside.ensures) (ap (λ (x : State g.row.E.Denot). x.laid.entries) e) e2 c.add-item.ensures.entries (let bg = sound.begins (begun-open s.stage c.requires.begun) in omega arith);
+          (sum_is X.count X.num wide q s m sound c.requires.begun lt c.v_width-owed.result c.v_width-owed.ensures.begun c.v_width-owed.ensures.rest c.args.width c.sum-sum.result c.sum.result a c.sum-sum.ensures c.sum.ensures it)
+          (all-is X.count X.num wide q s m sound c.requires.begun lt c.v_width-owed.result c.v_width-owed.ensures.begun c.v_width-owed.ensures.rest c.args.width c.sum-sum.result c.sum.result a c.sum-sum.ensures c.sum.ensures it)
+          (sym c.if-outside.ensures) (ap (λ (x : State g.row.E.Denot). x.laid.entries) e) e2 c.add_item.ensures.entries (let bg = sound.begins (begun-open s.stage c.requires.begun) in omega arith);
       answer = λ wide sound it. add_verdict_lem X.count wide (templates_of q) (room_in m) (ledger_of q s m) a (X.num c.sum.result) false false
-          (all-is X.count X.num wide q s m sound c.requires.begun lt c.v-width-owed.result c.v-width-owed.ensures.begun c.v-width-owed.ensures.rest c.args.width c.sum-sum.result c.sum.result a c.sum-sum.ensures c.sum.ensures it)
+          (all-is X.count X.num wide q s m sound c.requires.begun lt c.v_width-owed.result c.v_width-owed.ensures.begun c.v_width-owed.ensures.rest c.args.width c.sum-sum.result c.sum.result a c.sum-sum.ensures c.sum.ensures it)
           c.if-outside.ensures (full ∙ sym same);
       ledger = L;
       good = record {
-        fit = c.add-item.ensures.fit;
+        fit = c.add_item.ensures.fit;
         column = omega arith;
         items = omega arith;
         entries = omega arith;

@@ -5,8 +5,8 @@ use Rattle.rows.specs.Good.{moved_on}
 use Rattle.rows.proofs.Rooms.{zero-part, length-piece}
 use Rattle.rows.proofs.calls.add_pieces.Goals as goal
 
-pub add-part-requires : goal.add-part-requires
-add-part-requires g c =
+pub add_part-requires : goal.add_part-requires
+add_part-requires g c =
     let a = c.args.from in
     let n = c.args.n in
     let xs = c.args.pieces.now in
@@ -23,9 +23,9 @@ returns g c =
     let same : (a + n) - a ≡ n = omega arith in
     let l : length (take ((a + n) - a) (drop a xs)) ≡ n = length-piece xs a ((a + n) - a) (omega arith) ∙ same in
     record {
-      held = λ p. c.add-part.ensures.held p ∙ ap (λ (x : ℕ). pushed (held_of p s m) (decoded_items p (take x (drop a xs)) [])) same;
-      fit = c.add-part.ensures.fit;
-      state = c.add-part.ensures.state ∙ ap (λ (x : ℕ). moved_on s x) l;
-      lens = c.add-part.ensures.lens;
-      entries = c.add-part.ensures.entries;
+      held = λ p. c.add_part.ensures.held p ∙ ap (λ (x : ℕ). pushed (held_of p s m) (decoded_items p (take x (drop a xs)) [])) same;
+      fit = c.add_part.ensures.fit;
+      state = c.add_part.ensures.state ∙ ap (λ (x : ℕ). moved_on s x) l;
+      lens = c.add_part.ensures.lens;
+      entries = c.add_part.ensures.entries;
     }

@@ -12,8 +12,8 @@ use Rattle.rows.specs.Good.{column_at, one, owed, v_pieces, v_of, moved_on}
 use Rattle.rows.proofs.Rooms.{length-piece, rest-v, nothing-pushed, nothing-moved}
 use Rattle.rows.proofs.calls.add_v.Goals as goal
 
-pub overflow-add-column : goal.overflow-add-column
-overflow-add-column g c =
+pub overflow_add-column : goal.overflow_add-column
+overflow_add-column g c =
     let s = c.args.state.now in
     let q = c.args.preamble.now in
     let h : s.row.column + 1 ≤ length q.columns.now = subst (λ (st : Stage). s.row.column + one st ≤ length q.columns.now) c.in-Begun.is c.requires.good.column in
@@ -21,8 +21,8 @@ overflow-add-column g c =
     let k = c.requires.good.parts s.row.column h2 in
     search rules
 
-pub add-pieces-requires : goal.add-pieces-requires
-add-pieces-requires g c =
+pub add_pieces-requires : goal.add_pieces-requires
+add_pieces-requires g c =
     let s = c.args.state.now in
     let m = c.args.memory.now in
     let q = c.args.preamble.now in
@@ -43,13 +43,13 @@ returns-in-Begun g c =
     let h : col + 1 ≤ length q.columns.now = subst (λ (st : Stage). col + one st ≤ length q.columns.now) c.in-Begun.is c.requires.good.column in
     let h2 : col < length q.columns.now = omega arith in
     let k = c.requires.good.parts col h2 in
-    let e = c.add-pieces.ensures.state in
+    let e = c.add_pieces.ensures.state in
     let n : length (v_pieces q d) ≡ d.v = length-piece q.pieces.now (d.from + d.u) d.v (omega arith) in
     record {
-      held = λ p. subst (λ (st : Stage). held_of p c.add-pieces.new.state c.add-pieces.new.memory ≡ pushed (held_of p s m) (decoded_items p (v_of q st col) [])) (sym c.in-Begun.is) (c.add-pieces.ensures.held p);
-      fit = c.add-pieces.ensures.fit;
-      lens = c.add-pieces.ensures.lens;
-      entries = c.add-pieces.ensures.entries;
+      held = λ p. subst (λ (st : Stage). held_of p c.add_pieces.new.state c.add_pieces.new.memory ≡ pushed (held_of p s m) (decoded_items p (v_of q st col) [])) (sym c.in-Begun.is) (c.add_pieces.ensures.held p);
+      fit = c.add_pieces.ensures.fit;
+      lens = c.add_pieces.ensures.lens;
+      entries = c.add_pieces.ensures.entries;
       width = λ is d k kc h1 h2.
           let ew = ap (λ (x : State g.row.E.Denot). x.row.width) e in
           let r = get_or q.widths.now col c.index-preamble-c.result in
@@ -58,22 +58,22 @@ returns-in-Begun g c =
           c.sum-state.ensures k kc (subst (λ (x : g.row.E.Denot). Near (g.E.Extent.num x k)) (sym ew) h1) (subst (λ (x : Owed g.row.E.Denot). Near (g.E.Extent.num x.v k)) (sym eo) h2)
           ∙ ap (λ (x : g.row.E.Denot). g.E.Extent.num x k +ℤ g.E.Extent.num r.v k) ew ∙ ap (λ (x : Owed g.row.E.Denot). g.E.Extent.num s.row.width k +ℤ g.E.Extent.num x.v k) eo;
       still = λ never. absurd (never c.in-Begun.is);
-      marks = subst (λ (st : Stage). c.add-pieces.new.state.marks ≡ (moved_on s (length (v_of q st col))).marks) (sym c.in-Begun.is) (ap (λ (x : State g.row.E.Denot). x.marks) e ∙ ap (λ (i : ℕ). (moved_on s i).marks) (sym n));
+      marks = subst (λ (st : Stage). c.add_pieces.new.state.marks ≡ (moved_on s (length (v_of q st col))).marks) (sym c.in-Begun.is) (ap (λ (x : State g.row.E.Denot). x.marks) e ∙ ap (λ (i : ℕ). (moved_on s i).marks) (sym n));
       same = (ap (λ (x : State g.row.E.Denot). x.lines) e, ap (λ (x : State g.row.E.Denot). x.laid) e, ap (λ (x : State g.row.E.Denot). x.stage) e, ap (λ (x : State g.row.E.Denot). x.row.column) e, ap (λ (x : State g.row.E.Denot). x.row.first) e, ap (λ (x : State g.row.E.Denot). x.row.begin) e);
     }
 
-pub returns-in-default : goal.returns-in-default
-returns-in-default g c =
+pub returns-in_default : goal.returns-in_default
+returns-in_default g c =
     let s = c.args.state.now in
     let m = c.args.memory.now in
     let q = c.args.preamble.now in
-    let z = rest-v q s.stage s.row.column c.in-default.not-Begun in
+    let z = rest-v q s.stage s.row.column c.in_default.not-Begun in
     record {
       held = λ p. nothing-pushed p (held_of p s m) ∙ ap (λ (x : List ItemRecord). pushed (held_of p s m) (decoded_items p x [])) (sym z);
       fit = c.requires.good.fit;
       lens = refl;
       entries = refl;
-      width = λ is. absurd (c.in-default.not-Begun is);
+      width = λ is. absurd (c.in_default.not-Begun is);
       still = λ never. refl;
       marks = nothing-moved s ∙ ap (λ (x : List ItemRecord). (moved_on s (length x)).marks) (sym z);
       same = (refl, refl, refl, refl, refl, refl);

@@ -7,26 +7,26 @@ use Rattle.rows.specs.Good.{Lens, one}
 use Rattle.rows.proofs.Rooms.{begun-one, closed_same, entry-same}
 use Rattle.rows.proofs.calls.finish.Goals as goal
 
-pub end-entry-requires : goal.end-entry-requires
-end-entry-requires g c =
+pub end_entry-requires : goal.end_entry-requires
+end_entry-requires g c =
     let s = c.args.state.now in
     let o = begun-one s.stage c.requires.begun in
-    let e = ap (λ (x : Marks). x.entries) c.add-v.ensures.marks in
-    let l = ap (λ (x : Lens). x.entries) c.add-v.ensures.lens in
-    record { fit = c.add-v.ensures.fit; entries = omega arith }
+    let e = ap (λ (x : Marks). x.entries) c.add_v.ensures.marks in
+    let l = ap (λ (x : Lens). x.entries) c.add_v.ensures.lens in
+    record { fit = c.add_v.ensures.fit; entries = omega arith }
 
 pub returns : goal.returns
 returns g c =
     let s = c.args.state.now in
-    let e = c.end-entry.ensures.state in
-    let a = c.add-v.ensures in
-    let f = c.end-entry.ensures in
+    let e = c.end_entry.ensures.state in
+    let a = c.add_v.ensures in
+    let f = c.end_entry.ensures in
     record {
-      held = λ p. f.held p ∙ closed_same (held_of p c.add-v.new.state c.add-v.new.memory) _ c.add-v.new.state.row.first s.row.first c.add-v.new.state.row.column s.row.column (a.held p) a.same.4 a.same.3;
+      held = λ p. f.held p ∙ closed_same (held_of p c.add_v.new.state c.add_v.new.memory) _ c.add_v.new.state.row.first s.row.first c.add_v.new.state.row.column s.row.column (a.held p) a.same.4 a.same.3;
       fit = f.fit;
       lens = f.lens ∙ a.lens;
-      entries = f.entries ∙ entry-same c.add-v.new.memory.entries.now c.args.memory.now.entries.now c.add-v.new.state.marks.entries s.marks.entries c.add-v.new.state.row.first s.row.first c.add-v.new.state.row.column s.row.column
-          (c.add-v.new.state.marks.items - c.add-v.new.state.row.begin) (c.end-entry.new.state.marks.items - s.row.begin) c.add-v.new.state.row.width c.end-entry.new.state.row.width
+      entries = f.entries ∙ entry-same c.add_v.new.memory.entries.now c.args.memory.now.entries.now c.add_v.new.state.marks.entries s.marks.entries c.add_v.new.state.row.first s.row.first c.add_v.new.state.row.column s.row.column
+          (c.add_v.new.state.marks.items - c.add_v.new.state.row.begin) (c.end_entry.new.state.marks.items - s.row.begin) c.add_v.new.state.row.width c.end_entry.new.state.row.width
           a.entries (ap (λ (x : Marks). x.entries) a.marks) a.same.4 a.same.3
           (let i1 = ap (λ (x : State g.row.E.Denot). x.marks.items) e in let i2 = a.same.5 in omega arith)
           (sym (ap (λ (x : State g.row.E.Denot). x.row.width) e));

@@ -15,15 +15,15 @@ returns g c =
     let q = c.args.preamble.now in
     let p = q.text.now in
     let col = s.row.column in
-    let t = sym c.if-not-begun-at.false ∙ c.begun-at.ensures in
+    let t = sym c.if-not-begun_at.false ∙ c.begun_at.ensures in
     let b = both (begun_in s.stage) (eqb col c.args.column) t in
     let o = begun-one s.stage b in
     let lt : col < length q.columns.now = omega arith in
     let k = c.requires.parts col lt in
     let n = v-owed q s.stage col b k in
     let f = c.finish.ensures.numbers in
-    let e = c.end-row.ensures.state in
-    let l = c.end-row.ensures.lens ∙ c.finish.ensures.lens in
+    let e = c.end_row.ensures.state in
+    let l = c.end_row.ensures.lens ∙ c.finish.ensures.lens in
     let l1 = ap (λ (x : Lens). x.items) l in
     let l2 = ap (λ (x : Lens). x.entries) l in
     let l3 = ap (λ (x : Lens). x.lines) l in
@@ -33,17 +33,17 @@ returns g c =
     let e3 = ap (λ (x : State g.row.E.Denot). x.lines) e in
     let e4 = ap (λ (x : State g.row.E.Denot). x.marks.text) e in
     let e5 = ap (λ (x : State g.row.E.Denot). x.row.column) e in
-    let s3 = c.end-row.new.state in
-    let L = lay_ledger q s.stage col s.row.first (held_of p s m) lt b s3.row.column s3.row.first (held_of p s3 c.end-row.new.memory)
-    (c.end-row.ensures.held p ∙ ap laid_down (c.finish.ensures.held p)) in
+    let s3 = c.end_row.new.state in
+    let L = lay_ledger q s.stage col s.row.first (held_of p s m) lt b s3.row.column s3.row.first (held_of p s3 c.end_row.new.memory)
+    (c.end_row.ensures.held p ∙ ap laid_down (c.finish.ensures.held p)) in
     record {
       answer = lay_yes (ledger_of q s m) c.args.column (begun-at s.stage col s.row.first c.args.column (held_of p s m) ∙ sym t);
       ledger = L;
       sound = λ wide sound. lay_sound g.E.Extent.count g.E.Extent.num wide q s m sound b lt c.finish.new.state.row.width c.finish.ensures.width c.finish.ensures.still
-          (record { lines = s3.lines; laid = s3.laid; marks = s3.marks; stage = Closed; row = s3.row }) c.end-row.new.memory (c.finish.new.state.marks.items - s.row.begin)
-          refl (omega arith) c.requires.fit.since_entries (let e6 = ap (λ (x : State g.row.E.Denot). x.laid.entries) e in omega arith) (c.end-row.ensures.entries ∙ c.finish.ensures.entries) L;
+          (record { lines = s3.lines; laid = s3.laid; marks = s3.marks; stage = Closed; row = s3.row }) c.end_row.new.memory (c.finish.new.state.marks.items - s.row.begin)
+          refl (omega arith) c.requires.fit.since_entries (let e6 = ap (λ (x : State g.row.E.Denot). x.laid.entries) e in omega arith) (c.end_row.ensures.entries ∙ c.finish.ensures.entries) L;
       good = record {
-        fit = c.end-row.ensures.fit;
+        fit = c.end_row.ensures.fit;
         column = omega arith;
         items = omega arith;
         entries = omega arith;

@@ -10,15 +10,15 @@ use Rattle.rows.proofs.Rooms.{begun-one, begun-at, both, enough, u-length, v-len
 use Rattle.rows.proofs.Adds.{next-lacks, next-verdict, second}
 use Rattle.rows.proofs.calls.next_fault.Goals as goal
 
-pub returns-then-is-past : goal.returns-then-is-past
-returns-then-is-past g c =
+pub returns-then-is_past : goal.returns-then-is_past
+returns-then-is_past g c =
     let s = c.args.state.now in
     let m = c.args.memory.now in
     let q = c.args.preamble.now in
     let p = q.text.now in
     let col = s.row.column in
     let d = c.args.column in
-    let t = sym c.if-not-begun-at.false ∙ c.begun-at.ensures in
+    let t = sym c.if-not-begun_at.false ∙ c.begun_at.ensures in
     let b = both (begun_in s.stage) (eqb col d) t in
     let same = second (begun_in s.stage) col d t in
     let at = begun-at s.stage col s.row.first d (held_of p s m) ∙ sym t in
@@ -26,7 +26,7 @@ returns-then-is-past g c =
     let P = templates_of q in
     let G = ledger_of q s m in
     let pl = length-map q.columns.now (template_of q) in
-    let w2 = c.if-is-past.ensures ∙ ap (λ (n : ℕ). leb n (col + 1)) (sym pl) in
+    let w2 = c.if-is_past.ensures ∙ ap (λ (n : ℕ). leb n (col + 1)) (sym pl) in
     record {
       answer = next-verdict c.args.more P (room_in m) G col d true (lacking (room_in m) (used_items P G + (length (template_at P (col + 1)).u + length (template_at P (col + 1)).v)) (used_entries G + c.args.more) (used_lines G) (used_text G)) same at w2 refl;
       goes = λ h. let z : ◌≡◌ {A = ℕ} 0 1 = cc in absurd (omega arith);
@@ -40,7 +40,7 @@ returns-then-lacks g c =
     let p = q.text.now in
     let col = s.row.column in
     let d = c.args.column in
-    let t = sym c.if-not-begun-at.false ∙ c.begun-at.ensures in
+    let t = sym c.if-not-begun_at.false ∙ c.begun_at.ensures in
     let b = both (begun_in s.stage) (eqb col d) t in
     let same = second (begun_in s.stage) col d t in
     let at = begun-at s.stage col s.row.first d (held_of p s m) ∙ sym t in
@@ -48,15 +48,15 @@ returns-then-lacks g c =
     let P = templates_of q in
     let G = ledger_of q s m in
     let pl = length-map q.columns.now (template_of q) in
-    let w2 = c.if-is-past.ensures ∙ ap (λ (n : ℕ). leb n (col + 1)) (sym pl) in
+    let w2 = c.if-is_past.ensures ∙ ap (λ (n : ℕ). leb n (col + 1)) (sym pl) in
     let lt : col < length q.columns.now = omega arith in
-    let past = c.if-is-past.ensures in
+    let past = c.if-is_past.ensures in
     let next : col + 1 < length q.columns.now = grind (arith, nat_tests) in
     let k = c.requires.good.parts col lt in
     let k2 = c.requires.good.parts (col + 1) next in
     let h2 = column_at q.columns.now (col + 1) in
-    let full = c.if-lacks.ensures ∙ ap (λ (r : Room). lacking r (s.marks.items + c.owed-by.result + (h2.u + h2.v)) (s.marks.entries + 1 + c.args.more) (s.lines + 1) s.marks.text) c.room-in-room.ensures
-    ∙ ap (λ (i : ℕ). lacking (room_in m) (s.marks.items + i + (h2.u + h2.v)) (s.marks.entries + 1 + c.args.more) (s.lines + 1) s.marks.text) c.owed-by.ensures in
+    let full = c.if-lacks.ensures ∙ ap (λ (r : Room). lacking r (s.marks.items + c.owed_by.result + (h2.u + h2.v)) (s.marks.entries + 1 + c.args.more) (s.lines + 1) s.marks.text) c.room_in-room.ensures
+    ∙ ap (λ (i : ℕ). lacking (room_in m) (s.marks.items + i + (h2.u + h2.v)) (s.marks.entries + 1 + c.args.more) (s.lines + 1) s.marks.text) c.owed_by.ensures in
     let eqs = next-lacks q p s.lines s.laid s.marks s.row.begin m.lines.now m.entries.now m.items.now m.text.now c.requires.good.fit col s.row.first lt k s.stage b (room_in m) c.args.more h2.u h2.v (u-length q (col + 1) next k2) (v-length q (col + 1) next k2) in
     record {
       answer = next-verdict c.args.more P (room_in m) G col d false true same at w2 (full ∙ sym eqs);
@@ -71,7 +71,7 @@ returns g c =
     let p = q.text.now in
     let col = s.row.column in
     let d = c.args.column in
-    let t = sym c.if-not-begun-at.false ∙ c.begun-at.ensures in
+    let t = sym c.if-not-begun_at.false ∙ c.begun_at.ensures in
     let b = both (begun_in s.stage) (eqb col d) t in
     let same = second (begun_in s.stage) col d t in
     let at = begun-at s.stage col s.row.first d (held_of p s m) ∙ sym t in
@@ -79,15 +79,15 @@ returns g c =
     let P = templates_of q in
     let G = ledger_of q s m in
     let pl = length-map q.columns.now (template_of q) in
-    let w2 = c.if-is-past.ensures ∙ ap (λ (n : ℕ). leb n (col + 1)) (sym pl) in
+    let w2 = c.if-is_past.ensures ∙ ap (λ (n : ℕ). leb n (col + 1)) (sym pl) in
     let lt : col < length q.columns.now = omega arith in
-    let past = c.if-is-past.ensures in
+    let past = c.if-is_past.ensures in
     let next : col + 1 < length q.columns.now = grind (arith, nat_tests) in
     let k = c.requires.good.parts col lt in
     let k2 = c.requires.good.parts (col + 1) next in
     let h2 = column_at q.columns.now (col + 1) in
-    let full = c.if-lacks.ensures ∙ ap (λ (r : Room). lacking r (s.marks.items + c.owed-by.result + (h2.u + h2.v)) (s.marks.entries + 1 + c.args.more) (s.lines + 1) s.marks.text) c.room-in-room.ensures
-    ∙ ap (λ (i : ℕ). lacking (room_in m) (s.marks.items + i + (h2.u + h2.v)) (s.marks.entries + 1 + c.args.more) (s.lines + 1) s.marks.text) c.owed-by.ensures in
+    let full = c.if-lacks.ensures ∙ ap (λ (r : Room). lacking r (s.marks.items + c.owed_by.result + (h2.u + h2.v)) (s.marks.entries + 1 + c.args.more) (s.lines + 1) s.marks.text) c.room_in-room.ensures
+    ∙ ap (λ (i : ℕ). lacking (room_in m) (s.marks.items + i + (h2.u + h2.v)) (s.marks.entries + 1 + c.args.more) (s.lines + 1) s.marks.text) c.owed_by.ensures in
     let eqs = next-lacks q p s.lines s.laid s.marks s.row.begin m.lines.now m.entries.now m.items.now m.text.now c.requires.good.fit col s.row.first lt k s.stage b (room_in m) c.args.more h2.u h2.v (u-length q (col + 1) next k2) (v-length q (col + 1) next k2) in
     let en = enough (room_in m) (s.marks.items + owed s.stage (column_at q.columns.now col) + (h2.u + h2.v)) (s.marks.entries + 1 + c.args.more) (s.lines + 1) s.marks.text (sym full) in
     record {

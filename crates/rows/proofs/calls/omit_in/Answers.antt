@@ -16,7 +16,7 @@ returns g c =
     let m = c.args.memory.now in
     let q = c.args.preamble.now in
     let h = held_of q.text.now s m in
-    let t = sym c.if-not-fresh-at.false ∙ c.fresh-at.ensures in
+    let t = sym c.if-not-fresh_at.false ∙ c.fresh_at.ensures in
     let y = both (fresh_in s.stage) (eqb s.row.column c.args.column) t in
     let o = fresh-open s.stage y in
     record {

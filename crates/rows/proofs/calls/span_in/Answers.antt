@@ -22,12 +22,12 @@ returns g c =
     let q = c.args.preamble.now in
     let p = q.text.now in
     let col = s.row.column in
-    let go : Goes 0 s m q c.args.column = c.next-fault.ensures.goes c.in-default.is in
+    let go : Goes 0 s m q c.args.column = c.next_fault.ensures.goes c.in_default.is in
     let b = go.begun in
     let o = begun-one s.stage b in
     let lt : col < length q.columns.now = omega arith in
     let n = v-owed q s.stage col b (c.requires.parts col lt) in
-    let a = c.add-v.ensures in
+    let a = c.add_v.ensures in
     let i1 = ap (λ (x : Marks). x.items) a.marks in
     let i2 = ap (λ (x : Marks). x.entries) a.marks in
     let i3 = ap (λ (x : Marks). x.text) a.marks in
@@ -37,14 +37,14 @@ returns g c =
     let l2 = ap (λ (x : Lens). x.entries) l in
     let l3 = ap (λ (x : Lens). x.lines) l in
     let l4 = ap (λ (x : Lens). x.text) l in
-    let s' = c.add-v.new.state in
-    let m' = c.add-v.new.memory in
+    let s' = c.add_v.new.state in
+    let m' = c.add_v.new.memory in
     let s'' : State g.row.E.Denot = record { lines = s'.lines; laid = s'.laid; marks = s'.marks; stage = Fresh; row = record { column = col + 1; first = s'.row.first; begin = s'.row.begin; width = s'.row.width } } in
     let L : ledger_of q s'' m' ≡ on_open (carries (templates_of q) (ledger_of q s m)) (ledger_of q s m) (ledger_of q s m).hand =
     ap (λ (x : ℕ). ledger_by Fresh (col + 1) x (held_of p s' m')) a.same.4
     ∙ carry-ledger q s.stage col s.row.first (held_of p s m) lt b (held_of p s' m') (a.held p) in
     record {
-      answer = sym c.in-default.is ∙ c.next-fault.ensures.answer;
+      answer = sym c.in_default.is ∙ c.next_fault.ensures.answer;
       ledger = L;
       sound = λ wide sound.
           let X = g.E.Extent in

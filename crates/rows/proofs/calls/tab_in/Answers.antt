@@ -17,7 +17,7 @@ returns g c =
     let q = c.args.preamble.now in
     let p = q.text.now in
     let col = s.row.column in
-    let go : Goes 1 s m q c.args.column = c.next-fault.ensures.goes c.in-default.is in
+    let go : Goes 1 s m q c.args.column = c.next_fault.ensures.goes c.in_default.is in
     let b = go.begun in
     let o = begun-one s.stage b in
     let lt : col < length q.columns.now = omega arith in
@@ -32,7 +32,7 @@ returns g c =
     let m' = c.finish.new.memory in
     let L = tab_ledger q s.stage col s.row.first (held_of p s m) lt b (held_of p s' m') (c.finish.ensures.held p) in
     record {
-      answer = sym c.in-default.is ∙ c.next-fault.ensures.answer;
+      answer = sym c.in_default.is ∙ c.next_fault.ensures.answer;
       ledger = L;
       sound = λ wide sound.
           let X = g.E.Extent in

@@ -17,9 +17,9 @@ returns-then-lacks g c =
     let q = c.args.preamble.now in
     let h : 0 < length q.columns.now = omega arith in
     let k = c.requires.parts 0 h in
-    let o = sym c.is-open.ensures ∙ c.if-is-open.false in
+    let o = sym c.is_open.ensures ∙ c.if-is_open.false in
     let d = column_at q.columns.now 0 in
-    let ef = c.if-lacks.ensures ∙ ap (λ (r : Room). lacking r (s.laid.items + (d.u + d.v)) (s.laid.entries + 1) (s.lines + 1) s.laid.text) c.room-in-room.ensures in
+    let ef = c.if-lacks.ensures ∙ ap (λ (r : Room). lacking r (s.laid.items + (d.u + d.v)) (s.laid.entries + 1) (s.lines + 1) s.laid.text) c.room_in-room.ensures in
     record {
       answer = take-verdict (templates_of q) q.text.now s.lines s.laid s.marks s.row.begin m.lines.now m.entries.now m.items.now m.text.now c.requires.fit s.row.column s.row.first
           (room_in m) d.u d.v s.stage true o (u-length q 0 h k) (v-length q 0 h k) ef;
@@ -36,19 +36,19 @@ returns g c =
     let q = c.args.preamble.now in
     let h : 0 < length q.columns.now = omega arith in
     let k = c.requires.parts 0 h in
-    let o = sym c.is-open.ensures ∙ c.if-is-open.false in
+    let o = sym c.is_open.ensures ∙ c.if-is_open.false in
     let d = column_at q.columns.now 0 in
-    let ef = c.if-lacks.ensures ∙ ap (λ (r : Room). lacking r (s.laid.items + (d.u + d.v)) (s.laid.entries + 1) (s.lines + 1) s.laid.text) c.room-in-room.ensures in
-    let s' = c.go-back.new.state in
-    let m' = c.go-back.new.memory in
+    let ef = c.if-lacks.ensures ∙ ap (λ (r : Room). lacking r (s.laid.items + (d.u + d.v)) (s.laid.entries + 1) (s.lines + 1) s.laid.text) c.room_in-room.ensures in
+    let s' = c.go_back.new.state in
+    let m' = c.go_back.new.memory in
     let en = enough (room_in m) (s.laid.items + (d.u + d.v)) (s.laid.entries + 1) (s.lines + 1) s.laid.text (sym ef) in
-    let e = c.go-back.ensures.state in
+    let e = c.go_back.ensures.state in
     let e1 = ap (λ (x : State g.row.E.Denot). x.marks.items) e in
     let e2 = ap (λ (x : State g.row.E.Denot). x.marks.entries) e in
     let e3 = ap (λ (x : State g.row.E.Denot). x.lines) e in
     let e4 = ap (λ (x : State g.row.E.Denot). x.marks.text) e in
     let e5 = ap (λ (x : State g.row.E.Denot). x.row.begin) e in
-    let l = c.go-back.ensures.lens in
+    let l = c.go_back.ensures.lens in
     let l1 = ap (λ (x : Lens). x.items) l in
     let l2 = ap (λ (x : Lens). x.entries) l in
     let l3 = ap (λ (x : Lens). x.lines) l in
@@ -56,14 +56,14 @@ returns g c =
     record {
       answer = take-verdict (templates_of q) q.text.now s.lines s.laid s.marks s.row.begin m.lines.now m.entries.now m.items.now m.text.now c.requires.fit s.row.column s.row.first
           (room_in m) d.u d.v s.stage false o (u-length q 0 h k) (v-length q 0 h k) ef;
-      ledger = ap (ledger_by Fresh 0 0) (c.go-back.ensures.held q.text.now);
+      ledger = ap (ledger_by Fresh 0 0) (c.go_back.ensures.held q.text.now);
       sound = λ wide sound.
-          let H = c.go-back.ensures.held q.text.now in
+          let H = c.go_back.ensures.held q.text.now in
           fresh-sound g.E.Extent.count g.E.Extent.num wide q s (record { lines = s'.lines; laid = s'.laid; marks = s'.marks; stage = Fresh; row = record { column = 0; first = 0; begin = s'.marks.items; width = c.zero.result } }) m m' sound
-          (ap (λ (x : State g.row.E.Denot). x.laid.entries) e) (ap (take s.laid.entries) c.go-back.ensures.entries) (ap (λ (h : Held). flat_map entries_in h.lines) H)
+          (ap (λ (x : State g.row.E.Denot). x.laid.entries) e) (ap (take s.laid.entries) c.go_back.ensures.entries) (ap (λ (h : Held). flat_map entries_in h.lines) H)
           e2 (ap (λ (h : Held). h.items) H) refl (ap (λ (h : Held). h.done) H) c.zero.ensures (omega arith);
       good = record {
-        fit = subst (λ (b : ℕ). FitBy s'.lines s'.laid s'.marks b m'.lines.now m'.entries.now m'.items.now m'.text.now) (e5 ∙ sym e1) c.go-back.ensures.fit;
+        fit = subst (λ (b : ℕ). FitBy s'.lines s'.laid s'.marks b m'.lines.now m'.entries.now m'.items.now m'.text.now) (e5 ∙ sym e1) c.go_back.ensures.fit;
         column = omega arith;
         items = omega arith;
         entries = omega arith;

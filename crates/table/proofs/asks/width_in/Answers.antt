@@ -20,6 +20,6 @@ returns g c = record {
       let whole : length gs - 0 ≡ length gs = omega arith in
       let used : take (length gs - 0) ls ≡ map natural_in gs = ap (λ (n : ℕ). take n ls) whole ∙ c.naturals.ensures in
       let tame : (i : ℕ) → Within 16777215 (get_or (take (length gs - 0) ls) i (pos 0)) = λ i. subst (λ (xs : List ℤ). Within 16777215 (get_or xs i (pos 0))) (sym used) (lengths-within gs i) in
-      c.width-at.ensures.merged wide sound tame k kc
+      c.width_at.ensures.merged wide sound tame k kc
       ∙ ap (λ (xs : List ℤ). width (widest (map (natural_by wide k) (laid_entries (ledger_of q c.args.state.now c.args.memory.now)))) (after X.entered k xs) c.args.index) used;
 }

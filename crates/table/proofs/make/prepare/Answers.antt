@@ -13,7 +13,7 @@ use Rattle.table.proofs.make.prepare.Goals as goal
 pub returns-in-Ok : goal.returns-in-Ok
 returns-in-Ok g c =
     let text = c.args.text.now in
-    let t = c.read-at.new.templates in
+    let t = c.read_at.new.templates in
     let d = c.in-Ok.read in
     let e = c.in-Ok.ensures in
     let s = start_of c.args.start in
@@ -33,7 +33,7 @@ returns-in-Err g c =
     let e = c.in-Err.ensures.answer in
     let s = start_of c.args.start in
     let b = c.blank.ensures in
-    let X = g.Extent.Extent in
+    let X = g.M.Extent.Extent in
     let wide : Item → ℕ → ℤ = wide_by X.num X.entered (g.M.Measurer.meaning c.args.measurer.now) (g.M.Measurer.blank c.args.measurer.now) in
     let is = sym b.answer in
     record {

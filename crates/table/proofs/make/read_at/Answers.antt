@@ -19,7 +19,7 @@ returns-in-Some g c =
     ∙ ap (λ (z : ℤ). gap_of s.natural s.stretch z) (to_z-of_z w64 s.order o) in
     let meaning = g.M.Measurer.meaning c.args.measurer.now in
     record {
-      answer = c.read-preamble.ensures.answer ∙ ap (λ (x : Option Parts). read_from text meaning x) e;
-      kept = kept_from text (start_of s) (parts_of c.in-Some.gap) c.read-preamble.new.into c.read-preamble.result (sym e) c.read-preamble.ensures.kept;
-      widths = c.read-preamble.ensures.widths;
+      answer = c.read_preamble.ensures.answer ∙ ap (λ (x : Option Parts). read_from text meaning x) e;
+      kept = kept_from text (start_of s) (parts_of c.in-Some.gap) c.read_preamble.new.into c.read_preamble.result (sym e) c.read_preamble.ensures.kept;
+      widths = c.read_preamble.ensures.widths;
     }

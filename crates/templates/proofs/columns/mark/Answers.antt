@@ -12,5 +12,5 @@ returns g c = λ text wide t on le.
     let X = g.E.Extent in
     let h = c.args.hand in
     let e = c.args.end in
-    subst (λ (o : Outcome). Turns X.count X.num wide text h t o t (GoesOn (moved h e true h.gap))) (sym (hash_first (reading_of text h t) e (sym c.if-is-whole.ensures)))
+    subst (λ (o : Outcome). Turns X.count X.num wide text h t o t (GoesOn (moved h e true h.gap))) (sym (hash_first (reading_of text h t) e (sym c.if-is_whole.ensures)))
     (moved-turns X.count X.num wide text h t e true h.gap on le (λ m. absurd (both_ways true m refl)))

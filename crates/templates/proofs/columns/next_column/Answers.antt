@@ -9,16 +9,16 @@ use Rattle.templates.proofs.Moves.{refusal}
 use Rattle.templates.proofs.Finished.{length-templated, full_parted, parted-turns}
 use Rattle.templates.proofs.columns.next_column.Goals as goal
 
-pub returns-then-is-last : goal.returns-then-is-last
-returns-then-is-last g c = λ text wide on le.
+pub returns-then-is_last : goal.returns-then-is_last
+returns-then-is_last g c = λ text wide on le.
     let X = g.E.Extent in
     let h = c.args.hand in
     let t = c.args.into.now in
     let e = c.args.end in
-    let last = true-leb 32 (h.columns + 1) c.if-is-last.ensures in
+    let last = true-leb 32 (h.columns + 1) c.if-is_last.ensures in
     let many = length-templated text h t c.requires in
-    refusal X.count X.num wide text h t (parted (reading_of text h t) e) c.at-then-is-last.result
-    (ap refuses c.at-then-is-last.ensures ∙ sym (full_parted (reading_of text h t) e (sym c.if-not-is-whole.ensures) (omega arith)))
+    refusal X.count X.num wide text h t (parted (reading_of text h t) e) c.at-then-is_last.result
+    (ap refuses c.at-then-is_last.ensures ∙ sym (full_parted (reading_of text h t) e (sym c.if-not-is_whole.ensures) (omega arith)))
 
 pub returns : goal.returns
 returns g c = λ text wide on le.
@@ -26,7 +26,7 @@ returns g c = λ text wide on le.
     let h = c.args.hand in
     let t = c.args.into.now in
     let e = c.args.end in
-    let more = false-leb 32 (h.columns + 1) c.if-is-last.ensures in
-    let room = c.put-column.ensures.room in
-    subst (λ (t' : Templates g.row.E.Denot). Turns X.count X.num wide text h t (parted (reading_of text h t) e) t' (GoesOn (renewed h e (record { u = c.zero.result; v = c.zero-2.result })))) (sym c.put-column.ensures.memory)
-    (parted-turns X.count X.num wide text h t c.requires room.0 room.1 room.2 e on le (sym c.if-not-is-whole.ensures) (omega arith) (record { u = c.zero.result; v = c.zero-2.result }) c.zero.ensures c.zero-2.ensures)
+    let more = false-leb 32 (h.columns + 1) c.if-is_last.ensures in
+    let room = c.put_column.ensures.room in
+    subst (λ (t' : Templates g.row.E.Denot). Turns X.count X.num wide text h t (parted (reading_of text h t) e) t' (GoesOn (renewed h e (record { u = c.zero.result; v = c.zero-2.result })))) (sym c.put_column.ensures.memory)
+    (parted-turns X.count X.num wide text h t c.requires room.0 room.1 room.2 e on le (sym c.if-not-is_whole.ensures) (omega arith) (record { u = c.zero.result; v = c.zero-2.result }) c.zero.ensures c.zero-2.ensures)

@@ -3,4 +3,4 @@ use Rattle.templates.proofs.kinds.add_fill.Goals as goal
 
 pub returns : goal.returns
 returns g c = λ text wide sized none on le.
-    c.take-item.ensures text wide (record { sized = sized; fine = tt; onward = on; inside = le; width = λ k lt. c.zero.ensures k lt ∙ sym (none k) })
+    c.take_item.ensures text wide (record { sized = sized; fine = tt; onward = on; inside = le; width = λ k lt. c.zero.ensures k lt ∙ sym (none k) })

@@ -17,9 +17,9 @@ returns-in-Ok g c = λ wide sized by on.
     let w = c.in-Ok.ensures.within in
     let back : to_z w64 (of_z w64 c.in-Ok.length.sp) ≡ c.in-Ok.length.sp = omega (arith, ints, w.0, w.1) in
     let z = to_z w64 (of_z w64 c.in-Ok.length.sp) in
-    subst (λ (l : Result Length Fault). Turns X.count X.num wide text h t (kern_taken (reading_of text h t) c.args.end l) c.take-item.new.into c.take-item.result) c.in-Ok.ensures.answer
-    (subst (λ (n : ℤ). Turns X.count X.num wide text h t (taking (reading_of text h t) (kern n) c.args.end c.in-Ok.length.end) c.take-item.new.into c.take-item.result) back
-    (c.take-item.ensures text wide (record {
+    subst (λ (l : Result Length Fault). Turns X.count X.num wide text h t (kern_taken (reading_of text h t) c.args.end l) c.take_item.new.into c.take_item.result) c.in-Ok.ensures.answer
+    (subst (λ (n : ℤ). Turns X.count X.num wide text h t (taking (reading_of text h t) (kern n) c.args.end c.in-Ok.length.end) c.take_item.new.into c.take_item.result) back
+    (c.take_item.ensures text wide (record {
       sized = sized;
       fine = (omega (arith, ints, w.0, back), omega (arith, ints, w.1, back));
       onward = omega (arith, w.2);

@@ -12,8 +12,8 @@ use Rattle.templates.proofs.Moves.{refusal}
 use Rattle.templates.proofs.Sizing.{sized, word-is, cut-is}
 use Rattle.templates.proofs.kinds.add_word.Goals as goal
 
-pub overflow-add-place : goal.overflow-add-place
-overflow-add-place g c =
+pub overflow_add-place : goal.overflow_add-place
+overflow_add-place g c =
     let text = c.args.text.now in
     let w = c.args.word in
     let m = c.args.measurer.now in
@@ -29,11 +29,11 @@ overflow-add-place g c =
 
 pub returns-in-Ok : goal.returns-in-Ok
 returns-in-Ok g c =
-    let X = g.Extent.Extent in
+    let X = g.M.Extent.Extent in
     let m = c.args.measurer.now in
     let h = c.args.hand in
     let t = c.args.into.now in
-    let t' = c.take-item.new.into in
+    let t' = c.take_item.new.into in
     let text = c.args.text.now in
     let w = c.args.word in
     let i = c.requires.within in
@@ -43,10 +43,10 @@ returns-in-Ok g c =
     let meaning = g.M.Measurer.meaning m in
     let wide = wide_by X.num X.entered meaning (g.M.Measurer.blank m) in
     let ans : Ok c.in-Ok.metrics ≡ meaning bytes = c.in-Ok.ensures.answer cut ∙ ap meaning (cut-is text w.place w.len) in
-    let taken = subst (λ (q : Piece g.row.M-Extent.Denot). Suits X.count X.num wide text h.place q → Turns X.count X.num wide text h t (taking (reading_of text h t) (meant text q.item []) q.last q.end) t' c.take-item.result) c.word-piece.ensures (c.take-item.ensures text wide) in
-    subst (λ (x : Result (Metrics g.row.M-Extent.Denot) ℕ). Turns X.count X.num wide text h t (word_taken (reading_of text h t) x w.place bytes w.end) t' c.take-item.result) ans
+    let taken = subst (λ (q : Piece g.row.M-Extent.Denot). Suits X.count X.num wide text h.place q → Turns X.count X.num wide text h t (taking (reading_of text h t) (meant text q.item []) q.last q.end) t' c.take_item.result) c.word_piece.ensures (c.take_item.ensures text wide) in
+    subst (λ (x : Result (Metrics g.row.M-Extent.Denot) ℕ). Turns X.count X.num wide text h t (word_taken (reading_of text h t) x w.place bytes w.end) t' c.take_item.result) ans
     (taken (record {
-      sized = sized X.count X.num X.entered meaning (g.M.Measurer.blank m) (λ b x. g.met.M.Measurer.bounded m b x) (g.met.M.Measurer.spaced m) g.met.Extent.Extent.bounded text;
+      sized = sized X.count X.num X.entered meaning (g.M.Measurer.blank m) (λ b x. g.met.M.Measurer.bounded m b x) (g.met.M.Measurer.spaced m) g.met.M.Extent.Extent.bounded text;
       fine = (is, i.upto);
       onward = i.further;
       inside = i.inside;
@@ -55,7 +55,7 @@ returns-in-Ok g c =
 
 pub returns-in-Err : goal.returns-in-Err
 returns-in-Err g c =
-    let X = g.Extent.Extent in
+    let X = g.M.Extent.Extent in
     let m = c.args.measurer.now in
     let h = c.args.hand in
     let t = c.args.into.now in

@@ -8,18 +8,18 @@ use Rattle.templates.proofs.read.read_preamble.Goals as goal
 
 pub loop-next-init : goal.loop-next-init
 loop-next-init g c =
-    let X = g.Extent.Extent in
+    let X = g.M.Extent.Extent in
     let m = c.args.measurer.now in
     let text = c.args.text.now in
     let meaning = g.M.Measurer.meaning m in
     let wide = wide_by X.num X.entered meaning (g.M.Measurer.blank m) in
     let start = parts_of c.args.start in
-    subst (λ (t : Templates g.row.M-Extent.Denot). Underway X.count X.num wide text meaning start (begun c.args.start (record { u = c.zero.result; v = c.zero-2.result })) t) (sym c.put-start.ensures.memory)
-    (begins X.count X.num wide text meaning c.args.start (record { u = c.zero.result; v = c.zero-2.result }) c.args.into.now c.put-start.ensures.room c.zero.ensures c.zero-2.ensures)
+    subst (λ (t : Templates g.row.M-Extent.Denot). Underway X.count X.num wide text meaning start (begun c.args.start (record { u = c.zero.result; v = c.zero-2.result })) t) (sym c.put_start.ensures.memory)
+    (begins X.count X.num wide text meaning c.args.start (record { u = c.zero.result; v = c.zero-2.result }) c.args.into.now c.put_start.ensures.room c.zero.ensures c.zero-2.ensures)
 
 pub loop-next-smaller : goal.loop-next-smaller
 loop-next-smaller g c =
-    let X = g.Extent.Extent in
+    let X = g.M.Extent.Extent in
     let m = c.args.measurer.now in
     let text = c.args.text.now in
     let meaning = g.M.Measurer.meaning m in
@@ -32,7 +32,7 @@ loop-next-smaller g c =
 
 pub loop-next-preserved : goal.loop-next-preserved
 loop-next-preserved g c =
-    let X = g.Extent.Extent in
+    let X = g.M.Extent.Extent in
     let m = c.args.measurer.now in
     let text = c.args.text.now in
     let meaning = g.M.Measurer.meaning m in
@@ -45,7 +45,7 @@ loop-next-preserved g c =
 
 pub returns-in-Ends : goal.returns-in-Ends
 returns-in-Ends g c =
-    let X = g.Extent.Extent in
+    let X = g.M.Extent.Extent in
     let m = c.args.measurer.now in
     let text = c.args.text.now in
     let meaning = g.M.Measurer.meaning m in
@@ -60,12 +60,12 @@ returns-in-Ends g c =
       answer = ends-in X.count X.num wide text meaning start h t t' c.loop-next.invariant c.in-Ends.read turn;
       kept = kept X.count X.num wide text start c.in-Ends.read t' done;
       widths = widths X.count X.num wide text start c.in-Ends.read t' done
-          (sized X.count X.num X.entered meaning (g.M.Measurer.blank m) (λ w x. g.met.M.Measurer.bounded m w x) (g.met.M.Measurer.spaced m) g.met.Extent.Extent.bounded text);
+          (sized X.count X.num X.entered meaning (g.M.Measurer.blank m) (λ w x. g.met.M.Measurer.bounded m w x) (g.met.M.Measurer.spaced m) g.met.M.Extent.Extent.bounded text);
     }
 
 pub returns-in-Refuses : goal.returns-in-Refuses
 returns-in-Refuses g c =
-    let X = g.Extent.Extent in
+    let X = g.M.Extent.Extent in
     let m = c.args.measurer.now in
     let text = c.args.text.now in
     let meaning = g.M.Measurer.meaning m in

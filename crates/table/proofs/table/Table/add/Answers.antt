@@ -11,7 +11,7 @@ returns-in-Some g c =
       answer = λ wide sound fit. ap (λ (v : Option Fault). unless v tt) (e.answer wide sound fit);
       ledger = e.ledger;
       sound = e.sound;
-      kept = record { preamble = refl; room = same-room c.args.self.now.memory c.add-in.new.memory e.lens; measurer = refl; made = refl };
+      kept = record { preamble = refl; room = same-room c.args.self.now.memory c.add_in.new.memory e.lens; measurer = refl; made = refl };
     }
 
 pub returns-in-None : goal.returns-in-None
@@ -21,5 +21,5 @@ returns-in-None g c =
       answer = λ wide sound fit. ap (λ (v : Option Fault). unless v tt) (e.answer wide sound fit);
       ledger = e.ledger;
       sound = e.sound;
-      kept = record { preamble = refl; room = same-room c.args.self.now.memory c.add-in.new.memory e.lens; measurer = refl; made = refl };
+      kept = record { preamble = refl; room = same-room c.args.self.now.memory c.add_in.new.memory e.lens; measurer = refl; made = refl };
     }

@@ -17,7 +17,7 @@ use Rattle.table.proofs.table.Table.put_hfil.Goals as goal
 pub add-requires : goal.add-requires
 add-requires g c =
     let t = c.args.self.now in
-    let b = sym c.if-not-begun-at.false ∙ c.begun-at.ensures in
+    let b = sym c.if-not-begun_at.false ∙ c.begun_at.ensures in
     record { begun = both (begun_in t.state.stage) _ b; bytes = refl; few = omega arith }
 
 pub returns : goal.returns
@@ -26,11 +26,11 @@ returns g c =
     let s = t.state in
     let m = t.memory in
     let q = t.preamble in
-    let X = g.Extent.Extent in
+    let X = g.M.Extent.Extent in
     let meaning = g.M.Measurer.meaning t.measurer.now in
     let wide : Item → ℕ → ℤ = wide_by X.num X.entered meaning (g.M.Measurer.blank t.measurer.now) in
     let d = c.args.cell.now.column in
-    let b : begun_at d (ledger_of q s m).hand ≡ true = begun-at s.stage s.row.column s.row.first d (held_of q.text.now s m) ∙ sym c.begun-at.ensures ∙ c.if-not-begun-at.false in
+    let b : begun_at d (ledger_of q s m).hand ≡ true = begun-at s.stage s.row.column s.row.first d (held_of q.text.now s m) ∙ sym c.begun_at.ensures ∙ c.if-not-begun_at.false in
     let e = c.add.ensures in
     let good : item_fault meaning (hfil) ≡ None = refl in
     let fit : Fitting X.count X.num wide c.zero-width.result (hfil) = λ k kc. (c.zero-width.ensures k kc, none_within _ (c.zero-width.ensures k kc)) in

@@ -19,7 +19,7 @@ use Rattle.table.proofs.table.Table.put_kern.Goals as goal
 pub add-requires : goal.add-requires
 add-requires g c =
     let t = c.args.self.now in
-    let b = sym c.if-not-begun-at.false ∙ c.begun-at.ensures in
+    let b = sym c.if-not-begun_at.false ∙ c.begun_at.ensures in
     record { begun = both (begun_in t.state.stage) _ b; bytes = refl; few = omega arith }
 
 pub returns : goal.returns
@@ -28,18 +28,18 @@ returns g c =
     let s = t.state in
     let m = t.memory in
     let q = t.preamble in
-    let X = g.Extent.Extent in
+    let X = g.M.Extent.Extent in
     let meaning = g.M.Measurer.meaning t.measurer.now in
     let wide : Item → ℕ → ℤ = wide_by X.num X.entered meaning (g.M.Measurer.blank t.measurer.now) in
     let d = c.args.cell.now.column in
-    let b : begun_at d (ledger_of q s m).hand ≡ true = begun-at s.stage s.row.column s.row.first d (held_of q.text.now s m) ∙ sym c.begun-at.ensures ∙ c.if-not-begun-at.false in
+    let b : begun_at d (ledger_of q s m).hand ≡ true = begun-at s.stage s.row.column s.row.first d (held_of q.text.now s m) ∙ sym c.begun_at.ensures ∙ c.if-not-begun_at.false in
     let e = c.add.ensures in
     let z = c.args.sp in
     let whole : to_z w64 (of_z w64 z) ≡ z = let f = c.ranges.sp in omega (arith, ints) in
-    let fits : natural_fits z ≡ true = ap natural_fits (sym whole) ∙ sym c.kern-fits.ensures ∙ c.if-not-kern-fits.false in
+    let fits : natural_fits z ≡ true = ap natural_fits (sym whole) ∙ sym c.kern_fits.ensures ∙ c.if-not-kern_fits.false in
     let good : item_fault meaning (kern z) ≡ None = ap (λ (y : Bool). when (not y) out_of_range) fits in
     let fit : Fitting X.count X.num wide c.enter-width.result (kern (to_z w64 (of_z w64 z))) =
-    λ k kc. (c.enter-width.ensures k kc, subst (Within 1073741823) (sym (c.enter-width.ensures k kc)) (g.met.Extent.Extent.bounded k 1073741823 (to_z w64 (of_z w64 z)) kc (subst (Within 1073741823) (sym whole) (kern-within z fits)))) in
+    λ k kc. (c.enter-width.ensures k kc, subst (Within 1073741823) (sym (c.enter-width.ensures k kc)) (g.met.M.Extent.Extent.bounded k 1073741823 (to_z w64 (of_z w64 z)) kc (subst (Within 1073741823) (sym whole) (kern-within z fits)))) in
     let G = ledger_of q s m in
     record {
       answer = λ sound.

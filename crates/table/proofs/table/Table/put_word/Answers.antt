@@ -17,8 +17,8 @@ use Rattle.table.proofs.table.Table.put_word.Goals as goal
 pub add-requires : goal.add-requires
 add-requires g c =
     let t = c.args.self.now in
-    let b = sym c.if-not-begun-at.false ∙ c.begun-at.ensures in
-    record { begun = both (begun_in t.state.stage) _ b; bytes = refl; few = c.in-ok-metrics.ensures.law.0.1 }
+    let b = sym c.if-not-begun_at.false ∙ c.begun_at.ensures in
+    record { begun = both (begun_in t.state.stage) _ b; bytes = refl; few = c.in_ok-metrics.ensures.law.0.1 }
 
 pub returns : goal.returns
 returns g c =
@@ -26,17 +26,17 @@ returns g c =
     let s = t.state in
     let m = t.memory in
     let q = t.preamble in
-    let X = g.Extent.Extent in
+    let X = g.M.Extent.Extent in
     let meaning = g.M.Measurer.meaning t.measurer.now in
     let wide : Item → ℕ → ℤ = wide_by X.num X.entered meaning (g.M.Measurer.blank t.measurer.now) in
     let d = c.args.cell.now.column in
-    let b : begun_at d (ledger_of q s m).hand ≡ true = begun-at s.stage s.row.column s.row.first d (held_of q.text.now s m) ∙ sym c.begun-at.ensures ∙ c.if-not-begun-at.false in
+    let b : begun_at d (ledger_of q s m).hand ≡ true = begun-at s.stage s.row.column s.row.first d (held_of q.text.now s m) ∙ sym c.begun_at.ensures ∙ c.if-not-begun_at.false in
     let e = c.add.ensures in
     let w = c.args.word.now in
-    let x = c.in-ok-metrics.metrics in
-    let law = c.in-ok-metrics.ensures.law in
-    let good : item_fault meaning (cell_word w) ≡ None = ap fault_in (sym c.in-ok-metrics.ensures.answer) in
-    let fit : Fitting X.count X.num wide x.width (cell_word w) = λ k kc. (ap (λ (y : Result (Metrics g.row.M-Extent.Denot) ℕ). word_by X.num y k) (sym law.1), (c.in-ok-metrics.ensures.within k kc).0) in
+    let x = c.in_ok-metrics.metrics in
+    let law = c.in_ok-metrics.ensures.law in
+    let good : item_fault meaning (cell_word w) ≡ None = ap fault_in (sym c.in_ok-metrics.ensures.answer) in
+    let fit : Fitting X.count X.num wide x.width (cell_word w) = λ k kc. (ap (λ (y : Result (Metrics g.row.M-Extent.Denot) ℕ). word_by X.num y k) (sym law.1), (c.in_ok-metrics.ensures.within k kc).0) in
     record {
       answer = λ sound. e.answer wide sound fit ∙ ap (λ (v : Option Fault). unless v tt) (put_verdict_lem X.count wide meaning (templates_of q) (room_in m) (ledger_of q s m) d (cell_word w) b good);
       ledger = e.ledger;
