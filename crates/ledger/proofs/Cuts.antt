@@ -1,6 +1,6 @@
 -- Laws of `chunks` and `total`.
-use Rattle.std.proofs.Common.{◌≡◌, ℕ, ◌+◌, ◌-◌, ◌<◌, ◌≤◌, List, [], ◌∷◌, ◌++◌, length, take, drop, sym, refl, ap, ◌∙◌, append_assoc, add_assoc, zero-add, arith}
-use Rattle.std.proofs.lemmas.List.{length-append, length-take-le, length-drop, drop-drop, take_at, take_all, take-append-le, drop-append-le, drop_at, append-nil, drop_all}
+use Rattle.std.proofs.Common.{◌≡◌, ℕ, ◌+◌, ◌≤◌, List, [], ◌∷◌, ◌++◌, length, take, drop, sym, refl, ap, ◌∙◌, add_assoc, zero-add, arith}
+use Rattle.std.proofs.lemmas.List.{length-drop, drop-drop, take_all, take-append-le, drop-append-le, drop_at}
 use Rattle.ledger.specs.Chunks.{chunks, total}
 
 module _ {R A B : Type 0} (size : R → ℕ) (f : R → List A → B) where

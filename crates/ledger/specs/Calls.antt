@@ -1,8 +1,8 @@
 -- What each call makes of a ledger, and what it is refused for.
-use Rattle.std.specs.Prelude.{◌≡◌, ℕ, ◌+◌, ◌-◌, ◌<◌, ◌≤◌, min, Bool, true, false, cond, not, ◌&&◌, List, [], ◌∷◌, ◌++◌, map, length, ℤ, pos, Some, None, Option, ◌==◌, int_le, nat_le, nat_lt, slice_index_or}
+use Rattle.std.specs.Prelude.{ℕ, ◌+◌, Bool, true, false, cond, not, ◌&&◌, List, [], ◌∷◌, ◌++◌, length, ℤ, pos, Some, None, Option, ◌==◌, int_le, nat_le, nat_lt, slice_index_or}
 use Rattle.std.specs.List.{flat_map}
 use Rattle.faults.specs.declared.Fault.{Fault}
-use Rattle.ledger.specs.Refusals.{columns_over, entry_wide, foreign_cell, table_full, out_of_range}
+use Rattle.ledger.specs.Refusals.{columns_over, foreign_cell, table_full, out_of_range}
 use Rattle.ledger.specs.declared.records.Room.{Room}
 use Rattle.ledger.specs.Chunks.{total}
 use Rattle.ledger.specs.Ledger.{Item, cell_word, template_word, space, kern, hfil, Entry, Line, row, rule, gap, OpenRow, Ledger}

@@ -1,5 +1,5 @@
 -- What a table is: its lines and its open row, and what each call makes of them.
-use Rattle.std.specs.Prelude.{ℕ, ◌+◌, Bool, true, false, cond, List, [], ◌∷◌, ◌++◌, ℤ, Some, None, Option}
+use Rattle.std.specs.Prelude.{ℕ, Bool, List, ℤ, Option}
 
 -- An item: a word of a cell, a word of the preamble text with its place, a space, a kern, a hfil.
 pub data Item : Type 0 where

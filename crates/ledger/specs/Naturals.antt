@@ -1,5 +1,5 @@
 -- Natural widths by the measurer's meaning, on each side, and the calls that look at them.
-use Rattle.std.specs.Prelude.{ℕ, zero, suc, ◌+◌, Bool, true, false, cond, not, List, [], ◌∷◌, map, length, ℤ, pos, negsuc, ◌+ℤ◌, Some, None, Ok, Err, Option, Result, int_lt}
+use Rattle.std.specs.Prelude.{ℕ, zero, suc, ◌+◌, Bool, true, false, cond, not, List, [], ◌∷◌, ℤ, pos, negsuc, ◌+ℤ◌, Some, None, Ok, Err, Option, Result, int_lt}
 use Rattle.widths.specs.declared.Entry.{Entry as Sized}
 use Rattle.measure.specs.declared.measurer.Metrics.{Metrics}
 use Rattle.faults.specs.declared.Fault.{Fault}

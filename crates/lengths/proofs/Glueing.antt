@@ -1,5 +1,5 @@
 -- Glue at a place of a text, case by case. Assumes nothing.
-use Rattle.std.proofs.Common.{◌≡◌, ℕ, ◌+◌, ◌-◌, ◌≤◌, true, false, List, drop, ℤ, pos, negsuc, ◌≤ℤ◌, Ok, Err, codes, sym, ap, ◌∙◌, arith}
+use Rattle.std.proofs.Common.{◌≡◌, ℕ, ◌+◌, ◌≤◌, true, false, List, drop, ℤ, pos, negsuc, ◌≤ℤ◌, Ok, Err, codes, sym, ap, ◌∙◌, arith}
 use lib.Signed.{le_z}
 use Rattle.std.proofs.lemmas.Bool.{cond-true, cond-false, and_from}
 use Rattle.std.proofs.lemmas.Int.{ints}

@@ -1,5 +1,5 @@
 -- Lengths: what is spelled is answered, and nothing else. Assumes nothing.
-use Rattle.std.proofs.Common.{◌≡◌, ℕ, ◌+◌, ◌-◌, ◌<◌, ◌≤◌, Bool, true, false, cond, eqb, leb, ◌⊎◌, List, [], ◌∷◌, ◌++◌, length, get_or, drop, ℤ, pos, neg_ℤ, Some, None, Ok, Err, Option, Result, sym, refl, ap, ◌∙◌, subst, inl, inr, ⊎_elim, arith, length-drop, get_or-drop}
+use Rattle.std.proofs.Common.{◌≡◌, ℕ, ◌+◌, ◌<◌, ◌≤◌, Bool, true, false, cond, eqb, leb, List, [], ◌∷◌, ◌++◌, length, get_or, drop, ℤ, pos, neg_ℤ, Some, None, Ok, Err, Option, Result, sym, refl, ap, ◌∙◌, subst, inl, inr, ⊎_elim, arith, length-drop, get_or-drop}
 use Rattle.std.proofs.lemmas.Bool.{cases_Bool, cond-true, cond-false, eqb-true, ne_eqb, le-leb, lt-leb}
 use Rattle.faults.specs.declared.Fault.{Fault}
 use Rattle.faults.specs.declared.Cause.TheVariants.{BadLength}
@@ -12,7 +12,7 @@ use Rattle.lengths.specs.Fractions.{Digits}
 use Rattle.lengths.specs.Orders.{unit_text}
 use Rattle.lengths.specs.Dimens.{largest, dimen_of}
 use Rattle.lengths.specs.Lengths.{in_points, by_order, points_of, turned, length_of, missing_at, placed, length_at}
-use Rattle.lengths.specs.Spelling.{pointed, SpellsMeasure, SpellsLength, sign, signed}
+use Rattle.lengths.specs.Spelling.{pointed, SpellsMeasure, SpellsLength, signed}
 use Rattle.lengths.specs.Laws.{Begins, Missed, ReadsLength}
 use Rattle.lengths.proofs.Complete.{dimen-read}
 use Rattle.lengths.proofs.Sound.{some_is, none-some, dimen-spelled}

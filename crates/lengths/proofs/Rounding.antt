@@ -1,7 +1,7 @@
 -- Rounding down from the last digit on loses nothing: the steps give the exact quotient. Assumes nothing.
 use Rattle.std.proofs.Common.{◌≡◌, ℕ, ◌+◌, ◌-◌, ◌*◌, ◌/◌, ◌^◌, ◌<◌, ◌≤◌, List, [], ◌∷◌, map, length, sym, refl, ap, ◌∙◌, mul-le-mul_right, pow-suc, div-mul-le_self, arith}
 use native.Mathlib.Nat.{one-le-pow, add-mul-div_right, div-div-eq-div-mul, lt-div-mul-add}
-use Rattle.std.specs.Int.Digits.{number_from_digits, number_from_digits_after}
+use Rattle.std.specs.Int.Digits.{number_from_digits_after}
 use Rattle.lengths.specs.Fractions.{scaled, rounded, numeral, Nearest}
 
 abbrev digit : ℕ → ℕ

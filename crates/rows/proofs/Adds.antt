@@ -1,9 +1,7 @@
 -- One more item: its verdict and its sums.
-use Rattle.std.proofs.Common.{◌≡◌, ℕ, ◌+◌, ◌-◌, ◌<◌, ◌≤◌, min, Bool, true, false, cond, not, eqb, leb, List, [], ◌∷◌, ◌++◌, map, length, get_or, take, drop, ℤ, pos, negsuc, ◌+ℤ◌, Some, None, Option, sym, refl, ap, ◌∙◌, subst, arith, eqb-true}
-use lib.Signed.{lt_z}
+use Rattle.std.proofs.Common.{◌≡◌, ℕ, ◌+◌, ◌<◌, ◌≤◌, Bool, true, false, cond, not, eqb, leb, List, [], ◌∷◌, ◌++◌, map, length, get_or, take, ℤ, pos, ◌+ℤ◌, sym, refl, ap, ◌∙◌, subst, arith, eqb-true}
 use Rattle.std.specs.List.{flat_map}
 use Rattle.std.proofs.lemmas.Int.{ints}
-use Rattle.std.proofs.lemmas.Bool.Decides.{nat_tests}
 use Rattle.extent.specs.Sizes.{Within, Near}
 use Rattle.ledger.specs.declared.records.ItemRecord.{ItemRecord}
 use Rattle.ledger.specs.declared.records.ItemRecord.TheVariants.{CellWord, TemplateWord, Space, Kern, Hfil}
@@ -14,22 +12,19 @@ use Rattle.rows.specs.declared.state.Memory.{Memory}
 use Rattle.rows.specs.declared.state.State.{State}
 use Rattle.rows.specs.declared.state.Stage.{Stage}
 use Rattle.rows.specs.declared.state.Stage.TheVariants.{Closed, Fresh, Begun, Omitted}
-use Rattle.ledger.specs.declared.records.Column.{Column}
 use Rattle.ledger.specs.declared.records.Owed.{Owed}
 use Rattle.rows.specs.declared.preamble.Preamble.{Preamble}
 use Rattle.ledger.specs.declared.records.Room.{Room}
-use Rattle.faults.specs.declared.Fault.{Fault}
 use Rattle.ledger.specs.Refusals.{entry_wide, table_full, columns_over, foreign_cell}
-use Rattle.ledger.specs.Chunks.{chunks, total}
-use Rattle.ledger.specs.Ledger.{Item, Entry, Line, OpenRow, Ledger}
+use Rattle.ledger.specs.Ledger.{Item, Entry, Line, Ledger}
 use Rattle.ledger.specs.Calls.{Template, template_at, first_of, when, lacking, bytes_in, owes, used_items, used_entries, used_lines, used_text, on_open, puts, begun_at, fresh_at, starts, next_verdict, laid_entries, entries_in, done_of}
-use Rattle.rows.specs.Held.{part, Held, held_by, held_of, FitBy, Fit, pushed}
+use Rattle.rows.specs.Held.{part, Held, held_by, held_of, FitBy, pushed}
 use Rattle.ledger.specs.Items.{decoded_items, taken, meant}
-use Rattle.rows.specs.Good.{Good, column_at, one, owed, templates_of, ledger_by, ledger_of, hand_by, room_in, open_in, begun_in, fresh_in, u_pieces}
+use Rattle.rows.specs.Good.{column_at, owed, templates_of, ledger_by, ledger_of, hand_by, open_in, begun_in, fresh_in, u_pieces}
 use Rattle.rows.specs.Sound.{Sound, Lies, stored_by}
 use Rattle.ledger.specs.Naturals.{natural, beyond, out_z, owed_of, items_now, add_verdict, start_verdict, natural_by}
 use Rattle.rows.proofs.Counts.{lines-count, entries-count, items-count, text-count}
-use Rattle.rows.proofs.Rooms.{u-length, v-length, begun-open, template_is}
+use Rattle.rows.proofs.Rooms.{v-length, begun-open, template_is}
 use Rattle.ledger.proofs.Beyonds.{beyond-same, natural-none, beyond-not, natural-append, natural-one}
 
 pub item-bytes : (p : List ℕ) (k : ItemRecord) (w : List ℕ) → taken k ≡ length w → bytes_in (meant p k w) ≡ length w

@@ -1,17 +1,16 @@
 -- Entries that are laid, as ask takes them. Assumes nothing.
-use Rattle.std.proofs.Common.{◌≡◌, ℕ, suc, ◌+◌, ◌*◌, ◌<◌, ◌≤◌, Bool, true, false, cond, ◌&&◌, ltb, leb, List, [], ◌∷◌, map, length, get_or, take, ℤ, pos, Some, None, Ok, Option, sym, refl, ap, ◌∙◌, subst, arith}
+use Rattle.std.proofs.Common.{◌≡◌, ℕ, suc, ◌*◌, ◌<◌, ◌≤◌, Bool, true, cond, List, [], ◌∷◌, map, length, get_or, take, ℤ, Some, None, Ok, Option, sym, refl, ap, ◌∙◌, subst, arith}
 use Rattle.std.proofs.lemmas.List.{get_or-take, length-take}
 use Rattle.std.specs.List.{AllByRecursion}
 use Rattle.std.proofs.lemmas.Bool.{and_from, le-leb, lt-ltb}
 use Rattle.std.proofs.lemmas.Bool.Decides.{nat_tests}
-use Rattle.std.proofs.ByRecursion.{All-from_get_or, All-map}
 use Rattle.spans.specs.declared.table.Misfit.{Misfit}
 use Rattle.spans.specs.declared.table.Misfit.TheVariants.{Span}
 use Rattle.extent.specs.Sizes.{Within}
 use Rattle.widths.specs.declared.Entry.{Entry as Sized}
-use Rattle.widths.specs.Entries.{on_side, sided, widest, Proper}
+use Rattle.widths.specs.Entries.{on_side, widest, Proper}
 use Rattle.widths.specs.Merging.{width}
-use Rattle.widths.specs.Settling.{Settled, Tame}
+use Rattle.widths.specs.Settling.{Settled}
 use Rattle.widths.proofs.Settles.{merging_settles}
 use Rattle.ledger.specs.Ledger.{Item}
 use Rattle.ledger.specs.Calls.{laid_entries}

@@ -1,7 +1,7 @@
 -- How many lines, entries, items and bytes a ledger has, by the marks.
-use Rattle.std.proofs.Common.{◌≡◌, ℕ, ◌+◌, ◌-◌, ◌<◌, ◌≤◌, List, [], ◌∷◌, ◌++◌, length, take, drop, sym, refl, ap, ◌∙◌, subst, append_assoc, zero-add, arith}
+use Rattle.std.proofs.Common.{◌≡◌, ℕ, ◌+◌, ◌-◌, ◌≤◌, List, [], ◌∷◌, ◌++◌, length, take, drop, sym, refl, ap, ◌∙◌, append_assoc, arith}
 use Rattle.std.specs.List.{flat_map}
-use Rattle.std.proofs.lemmas.List.{length-append, length-take-le, length-take, length-drop, drop-append-le, drop_all, take_all, append-nil, take-take, take-append-drop, drop-take, nil_from_length}
+use Rattle.std.proofs.lemmas.List.{length-append, length-take-le, length-take, length-drop, take_all, take-take, take-append-drop, drop-take, nil_from_length}
 use Rattle.ledger.specs.declared.records.ItemRecord.{ItemRecord}
 use Rattle.ledger.specs.declared.records.ItemRecord.TheVariants.{CellWord, TemplateWord, Space, Kern, Hfil}
 use Rattle.rows.specs.declared.state.EntryRecord.{EntryRecord}
@@ -9,13 +9,12 @@ use Rattle.rows.specs.declared.state.LineRecord.{LineRecord}
 use Rattle.rows.specs.declared.state.LineRecord.TheVariants.{Row, Rule, Gap}
 use Rattle.rows.specs.declared.state.Marks.{Marks}
 use Rattle.ledger.specs.Chunks.{chunks, total}
-use Rattle.ledger.specs.Ledger.{Item, Entry, Line, row, rule, gap}
+use Rattle.ledger.specs.Ledger.{Item, Entry}
 use Rattle.ledger.specs.Calls.{entries_in, items_in, bytes_in}
-use Rattle.rows.specs.Held.{part, counted, entry_of, decoded_entries, rowed, line_of, decoded_lines, Held, held_by, FitBy, emptied}
+use Rattle.rows.specs.Held.{part, counted, entry_of, decoded_entries, rowed, line_of, held_by, FitBy}
 use Rattle.ledger.specs.Items.{taken, meant, decoded_items}
 use Rattle.ledger.proofs.Cuts.{total-append, length-chunks}
 use Rattle.rows.proofs.Overs.{length_part}
-use Rattle.rows.proofs.Grows.{empty-held, empty-fit}
 
 take-add : {X : Type 0} (a b : ℕ) (xs : List X) → take a xs ++ take b (drop a xs) ≡ take (a + b) xs
 take-add {X} a b xs =

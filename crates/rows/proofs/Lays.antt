@@ -1,5 +1,5 @@
 -- The widths of a row that is laid.
-use Rattle.std.proofs.Common.{◌≡◌, ℕ, ◌+◌, ◌-◌, ◌<◌, ◌≤◌, Bool, true, false, cond, List, [], ◌∷◌, ◌++◌, map, length, get_or, take, drop, set, ℤ, pos, ◌+ℤ◌, Some, None, Option, sym, refl, ap, ◌∙◌, subst, ⊎_elim, append_assoc, arith}
+use Rattle.std.proofs.Common.{◌≡◌, ℕ, ◌+◌, ◌<◌, ◌≤◌, Bool, true, false, List, [], ◌∷◌, ◌++◌, map, length, get_or, take, set, ℤ, pos, ◌+ℤ◌, Option, sym, refl, ap, ◌∙◌, subst, ⊎_elim, append_assoc, arith}
 use Rattle.std.specs.List.{flat_map}
 use Rattle.std.proofs.lemmas.Int.{ints}
 use Rattle.std.proofs.lemmas.Bool.{cases_eq}
@@ -13,8 +13,8 @@ use Rattle.rows.specs.declared.state.Stage.{Stage}
 use Rattle.rows.specs.declared.state.Stage.TheVariants.{Closed, Fresh, Begun, Omitted}
 use Rattle.ledger.specs.declared.records.Owed.{Owed}
 use Rattle.rows.specs.declared.preamble.Preamble.{Preamble}
-use Rattle.ledger.specs.Ledger.{Item, Entry, Line, row, OpenRow, Ledger}
-use Rattle.ledger.specs.Calls.{Template, template_at, on_open, lays, laid_entries, entries_in, done_of, v_owed, finished}
+use Rattle.ledger.specs.Ledger.{Item, Entry, row, OpenRow, Ledger}
+use Rattle.ledger.specs.Calls.{Template, template_at, on_open, lays, laid_entries, entries_in, done_of}
 use Rattle.rows.specs.Held.{part, Held, held_of}
 use Rattle.rows.specs.Good.{templates_of, ledger_by, ledger_of, hand_by, open_in, begun_in}
 use Rattle.rows.specs.Sound.{Sound, Lies, stored_by}
@@ -23,7 +23,7 @@ use Rattle.rows.proofs.Counts.{joined-append}
 use Rattle.rows.proofs.Overs.{take_part}
 use Rattle.rows.proofs.Rooms.{begun-open}
 use Rattle.ledger.proofs.Beyonds.{natural-append}
-use Rattle.rows.proofs.Adds.{owed-num, owed_small, sums-near}
+use Rattle.rows.proofs.Adds.{owed-num, owed_small}
 
 -- the decoded_entries of a ledger after a row is laid
 lay_spans : (P : List Template) (st : Stage) (c f : ℕ) (h : Held) → begun_in st ≡ true

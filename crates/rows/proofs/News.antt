@@ -1,11 +1,10 @@
 -- A table on which nothing is laid. Assumes nothing.
-use Rattle.std.proofs.Common.{◌≡◌, ℕ, ◌+◌, ◌<◌, ◌≤◌, min, Bool, true, false, List, [], length, get_or, take, drop, ℤ, sym, refl, ap, ◌∙◌, arith}
+use Rattle.std.proofs.Common.{◌≡◌, ℕ, ◌+◌, ◌<◌, ◌≤◌, Bool, true, false, length, get_or, ℤ, refl, arith}
 use Rattle.extent.specs.Sizes.{Within}
-use Rattle.ledger.specs.declared.records.Column.{Column}
 use Rattle.ledger.specs.declared.records.Owed.{Owed}
 use Rattle.ledger.specs.Chunks.{chunks, total}
 use Rattle.ledger.specs.Items.{taken}
-use Rattle.ledger.specs.Ledger.{Item, Ledger}
+use Rattle.ledger.specs.Ledger.{Item}
 use Rattle.ledger.specs.Calls.{template_at}
 use Rattle.ledger.specs.Naturals.{natural}
 use Rattle.rows.specs.declared.state.Memory.{Memory}

@@ -1,5 +1,5 @@
 -- Templates, stages and verdicts, by the numbers that the code compares.
-use Rattle.std.proofs.Common.{◌≡◌, ℕ, ◌+◌, ◌-◌, ◌<◌, ◌≤◌, min, Bool, true, false, cond, not, eqb, ltb, leb, List, [], ◌∷◌, ◌++◌, map, length, get_or, take, drop, set, Some, None, Option, sym, refl, ap, ◌∙◌, subst, add-zero, arith}
+use Rattle.std.proofs.Common.{◌≡◌, ℕ, ◌+◌, ◌<◌, ◌≤◌, Bool, true, false, cond, eqb, List, [], ◌∷◌, ◌++◌, length, take, drop, set, Some, None, sym, refl, ap, ◌∙◌, add-zero, arith}
 use Rattle.std.specs.List.{flat_map}
 use Rattle.std.proofs.lemmas.List.{length-take-le, length-drop, take-append-drop, get_or-map, append-nil}
 use Rattle.std.proofs.lemmas.Bool.Decides.{nat_tests}
@@ -7,21 +7,18 @@ use Rattle.ledger.specs.declared.records.ItemRecord.{ItemRecord}
 use Rattle.rows.specs.declared.state.EntryRecord.{EntryRecord}
 use Rattle.rows.specs.declared.state.LineRecord.{LineRecord}
 use Rattle.rows.specs.declared.state.Marks.{Marks}
-use Rattle.rows.specs.declared.state.Memory.{Memory}
 use Rattle.rows.specs.declared.state.State.{State}
 use Rattle.rows.specs.declared.state.Stage.{Stage}
 use Rattle.rows.specs.declared.state.Stage.TheVariants.{Closed, Fresh, Begun, Omitted}
-use Rattle.ledger.specs.declared.records.Column.{Column}
 use Rattle.rows.specs.declared.preamble.Preamble.{Preamble}
 use Rattle.ledger.specs.declared.records.Room.{Room}
-use Rattle.faults.specs.declared.Fault.{Fault}
-use Rattle.ledger.specs.Refusals.{foreign_cell, table_full, columns_over}
-use Rattle.ledger.specs.Chunks.{chunks, total}
-use Rattle.ledger.specs.Ledger.{Item, Entry, Line, OpenRow, Ledger}
-use Rattle.ledger.specs.Calls.{Template, template_at, first_of, when, after, lacking, entries_in, items_in, bytes_in, all_items, used_items, used_entries, used_lines, used_text, take_verdict, tab_verdict, rule_verdict, lay_verdict, is_open, fresh_at, begun_at, opened, on_open, lays, tabs, carries, v_owed, ruled_by}
+use Rattle.ledger.specs.Refusals.{foreign_cell, table_full}
+use Rattle.ledger.specs.Chunks.{total}
+use Rattle.ledger.specs.Ledger.{Item, Line, OpenRow, Ledger}
+use Rattle.ledger.specs.Calls.{Template, template_at, first_of, when, lacking, entries_in, items_in, bytes_in, all_items, used_items, used_entries, used_lines, used_text, take_verdict, rule_verdict, lay_verdict, fresh_at, begun_at, on_open, lays, tabs, carries, v_owed, ruled_by}
 use Rattle.ledger.specs.Items.{taken, meant, decoded_items}
-use Rattle.rows.specs.Held.{Held, held_by, held_of, FitBy, Fit, emptied, pushed, closed, laid_down, ruled}
-use Rattle.rows.specs.Good.{Good, column_at, one, owed, u_pieces, v_pieces, template_of, templates_of, ledger_by, ledger_of, hand_by, room_in, open_in, fresh_in, begun_in, v_of, moved_on, omitted_in}
+use Rattle.rows.specs.Held.{Held, held_by, FitBy, emptied, pushed, closed, laid_down, ruled}
+use Rattle.rows.specs.Good.{column_at, one, owed, u_pieces, v_pieces, template_of, templates_of, ledger_by, hand_by, open_in, fresh_in, begun_in, v_of, moved_on, omitted_in}
 use Rattle.ledger.proofs.Cuts.{total-append, length-chunks, chunks-none}
 use Rattle.rows.proofs.Grows.{empty-held, empty-fit}
 use Rattle.rows.proofs.Counts.{lines-count, entries-count, items-count, text-count}

@@ -1,5 +1,5 @@
 -- What always holds of a table: its marks fit its memory, and the room for what is owed is kept.
-use Rattle.std.specs.Prelude.{◌≡◌, ℕ, ◌+◌, ◌<◌, ◌≤◌, min, Bool, true, false, List, [], ◌∷◌, map, length, take, Some, None, Option, slice_index_or}
+use Rattle.std.specs.Prelude.{◌≡◌, ℕ, ◌+◌, ◌<◌, ◌≤◌, min, Bool, true, false, List, [], map, length, take, Some, None, Option, slice_index_or}
 use Rattle.ledger.specs.declared.records.ItemRecord.{ItemRecord}
 use Rattle.rows.specs.declared.state.Marks.{Marks}
 use Rattle.ledger.specs.Ledger.{OpenRow, Ledger}
@@ -13,7 +13,7 @@ use Rattle.ledger.specs.declared.records.Column.{Column}
 use Rattle.rows.specs.declared.preamble.Preamble.{Preamble}
 use Rattle.ledger.specs.Chunks.{total}
 use Rattle.rows.specs.Held.{Fit, counted, rowed, part, Held, held_of}
-use Rattle.ledger.specs.Items.{taken, decoded_items, u_in, v_in, template_in}
+use Rattle.ledger.specs.Items.{taken, u_in, v_in, template_in}
 
 -- the column at a place
 abbrev pub column_at : List Column → ℕ → Column

@@ -1,5 +1,5 @@
 -- What the marks and the lent memory say.
-use Rattle.std.specs.Prelude.{◌≡◌, ℕ, ◌+◌, ◌-◌, ◌<◌, ◌≤◌, Bool, true, false, cond, List, [], ◌∷◌, ◌++◌, length, take, drop, ℤ, Some, None, Option}
+use Rattle.std.specs.Prelude.{◌≡◌, ℕ, ◌+◌, ◌≤◌, List, [], ◌∷◌, ◌++◌, length, take, drop}
 use Rattle.ledger.specs.declared.records.ItemRecord.{ItemRecord}
 use Rattle.rows.specs.declared.state.EntryRecord.{EntryRecord}
 use Rattle.rows.specs.declared.state.LineRecord.{LineRecord}
@@ -7,11 +7,9 @@ use Rattle.rows.specs.declared.state.LineRecord.TheVariants.{Row, Rule, Gap}
 use Rattle.rows.specs.declared.state.Marks.{Marks}
 use Rattle.rows.specs.declared.state.Memory.{Memory}
 use Rattle.rows.specs.declared.state.State.{State}
-use Rattle.rows.specs.declared.state.Stage.{Stage}
-use Rattle.rows.specs.declared.state.Stage.TheVariants.{Closed, Fresh, Begun, Omitted}
 use Rattle.ledger.specs.Chunks.{chunks, total}
 use Rattle.ledger.specs.Items.{taken, decoded_items}
-use Rattle.ledger.specs.Ledger.{Item, cell_word, template_word, space, kern, hfil, Entry, Line, row, rule, gap, OpenRow, Ledger}
+use Rattle.ledger.specs.Ledger.{Item, Entry, Line, row, rule, gap}
 
 -- d with w written over it from place at
 abbrev pub over : {X : Type 0} → List X → ℕ → List X → List X

@@ -1,5 +1,5 @@
 -- The extents that a table keeps are those of its ledger's items.
-use Rattle.std.specs.Prelude.{◌≡◌, ℕ, ◌<◌, ◌≤◌, true, List, map, length, get_or, take, ℤ, ◌+ℤ◌, slice_index_or}
+use Rattle.std.specs.Prelude.{◌≡◌, ℕ, ◌<◌, ◌≤◌, true, map, length, get_or, take, ℤ, ◌+ℤ◌, slice_index_or}
 use Rattle.extent.specs.Sizes.{Within}
 use Rattle.widths.specs.declared.Entry.{Entry as Sized}
 use Rattle.ledger.specs.declared.records.Owed.{Owed}

@@ -1,10 +1,9 @@
 -- The widths that ask answers. Assumes nothing.
-use Rattle.std.proofs.Common.{◌≡◌, ℕ, zero, suc, ◌+◌, ◌-◌, ◌<◌, ◌≤◌, Bool, true, false, cond, List, [], ◌∷◌, map, get_or, ℤ, pos, Some, None, Ok, Err, Option, Result, sym, refl, ap, ◌∙◌, subst, arith}
+use Rattle.std.proofs.Common.{◌≡◌, ℕ, zero, suc, ◌-◌, Bool, true, false, cond, List, [], ◌∷◌, map, get_or, ℤ, pos, Ok, Err, Option, sym, ap, ◌∙◌, arith}
 use Rattle.std.proofs.lemmas.Int.{ints}
-use Rattle.faults.specs.declared.Fault.{Fault}
 use Rattle.extent.specs.Sizes.{Within}
 use Rattle.widths.specs.declared.Entry.{Entry as Sized}
-use Rattle.widths.specs.Merging.{width, seen}
+use Rattle.widths.specs.Merging.{width}
 use Rattle.widths.specs.Entries.{widest}
 use Rattle.lengths.specs.declared.gap.Gap.{Gap}
 use Rattle.table.specs.Promises.{has_column, no_column, ask_on}

@@ -1,14 +1,11 @@
 -- What stands for a preamble that is refused. Assumes nothing.
-use Rattle.std.proofs.Common.{◌≡◌, ℕ, zero, suc, ◌+◌, ◌<◌, ◌≤◌, List, [], ◌∷◌, map, length, get_or, take, drop, set, ℤ, pos, sym, refl, ap, ◌∙◌, subst, arith}
+use Rattle.std.proofs.Common.{◌≡◌, ℕ, zero, suc, ◌<◌, List, [], ◌∷◌, map, length, get_or, take, set, ℤ, pos, sym, refl, ap, ◌∙◌, subst, arith}
 use Rattle.std.proofs.lemmas.Int.{ints}
 use Rattle.extent.specs.Sizes.{Within}
-use Rattle.lengths.specs.declared.gap.Gap.{Gap}
-use Rattle.lengths.specs.Gaps.{Parts, parts_of}
+use Rattle.lengths.specs.Gaps.{parts_of}
 use Rattle.ledger.specs.declared.records.Column.{Column}
-use Rattle.ledger.specs.declared.records.Owed.{Owed}
-use Rattle.ledger.specs.declared.records.ItemRecord.{ItemRecord}
 use Rattle.ledger.specs.Chunks.{chunks, total}
-use Rattle.ledger.specs.Items.{taken, template_in}
+use Rattle.ledger.specs.Items.{template_in}
 use Rattle.ledger.specs.Ledger.{Item}
 use Rattle.ledger.specs.Calls.{Template, template_at}
 use Rattle.ledger.specs.Naturals.{natural}

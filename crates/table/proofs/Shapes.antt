@@ -1,5 +1,5 @@
 -- What was read, as a table holds it. Assumes nothing.
-use Rattle.std.proofs.Common.{◌≡◌, ℕ, zero, suc, ◌+◌, ◌<◌, ◌≤◌, min, List, [], ◌∷◌, map, length, get_or, take, drop, ℤ, Some, None, Ok, Err, Option, Result, sym, refl, ap, ◌∙◌, subst, ⊎_elim, add-one, arith}
+use Rattle.std.proofs.Common.{◌≡◌, ℕ, ◌+◌, ◌<◌, ◌≤◌, min, List, [], ◌∷◌, map, length, get_or, take, drop, ℤ, Some, Ok, Err, Option, Result, sym, refl, ap, ◌∙◌, subst, ⊎_elim, add-one, arith}
 use Rattle.faults.specs.declared.Fault.{Fault}
 use Rattle.lengths.specs.declared.gap.Gap.{Gap}
 use Rattle.lengths.specs.Gaps.{Parts, parts_of}
@@ -7,7 +7,7 @@ use Rattle.ledger.specs.Calls.{Template, template_at}
 use Rattle.ledger.specs.Preambles.{Preamble}
 use Rattle.templates.specs.declared.memory.Templates.{Templates}
 use Rattle.templates.specs.declared.memory.Read.{Read}
-use Rattle.templates.specs.Readings.{templates_in, gaps_in, preamble_by, read_in}
+use Rattle.templates.specs.Readings.{templates_in, read_in}
 use Rattle.std.proofs.lemmas.List.{get_or-take, get_or_past}
 use Rattle.std.proofs.lemmas.Bool.{cases_lt}
 use Rattle.extent.specs.Sizes.{Within}

@@ -1,5 +1,5 @@
 -- Put, and going on to the next column.
-use Rattle.std.proofs.Common.{◌≡◌, ℕ, ◌+◌, ◌<◌, min, Bool, true, false, cond, not, leb, List, [], ◌∷◌, length, ℤ, pos, ◌≤ℤ◌, Some, None, Option, Result, sym, refl, ap, ◌∙◌, arith}
+use Rattle.std.proofs.Common.{◌≡◌, ℕ, ◌+◌, ◌<◌, min, Bool, true, false, not, leb, List, [], ◌∷◌, length, ℤ, pos, Some, None, Option, Result, refl, ap, arith}
 use Rattle.std.proofs.lemmas.Int.{ints}
 use Rattle.std.proofs.lemmas.Bool.Decides.{nat_tests}
 use Rattle.extent.specs.Sizes.{Within}

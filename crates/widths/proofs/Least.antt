@@ -1,12 +1,12 @@
 -- Widths that meet the formula hold every entry, and their edges are the least. Assumes nothing.
-use Rattle.std.proofs.Common.{◌≡◌, ℕ, zero, suc, ◌<◌, ◌≤◌, List, [], ◌∷◌, ℤ, pos, ◌+ℤ◌, ◌-ℤ◌, ◌≤ℤ◌, Some, None, Option, sym, refl, ap, ◌∙◌, subst, ⊎_elim, arith}
+use Rattle.std.proofs.Common.{◌≡◌, ℕ, zero, suc, ◌<◌, ◌≤◌, List, [], ◌∷◌, ℤ, pos, ◌-ℤ◌, ◌≤ℤ◌, Some, None, Option, sym, ap, ◌∙◌, subst, ⊎_elim, arith}
 use Rattle.std.specs.List.{AllByRecursion}
 use Rattle.std.proofs.lemmas.Int.{ints}
 use Rattle.std.proofs.lemmas.Bool.{cases_lt}
 use Rattle.std.proofs.ByRecursion.{All-weaker}
 use Rattle.widths.specs.declared.Entry.{Entry}
-use Rattle.widths.specs.Merging.{less, size, counted, step}
-use Rattle.widths.specs.Formula.{between, largest, moves, formula, reach}
+use Rattle.widths.specs.Merging.{less, size}
+use Rattle.widths.specs.Formula.{between, moves, formula, reach}
 use Rattle.widths.specs.Entries.{widest, Proper, Holds, NoneEnds}
 use Rattle.widths.specs.Settling.{instead}
 use Rattle.widths.proofs.Options.{Above, above-some, by-option, less-from, counted-instead}

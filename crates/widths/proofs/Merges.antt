@@ -1,5 +1,5 @@
 -- The merge meets the maximum formula, which has one solution. Assumes nothing.
-use Rattle.std.proofs.Common.{◌≡◌, ℕ, zero, suc, ◌+◌, ◌<◌, ◌≤◌, min, ℤ, pos, ◌+ℤ◌, ◌-ℤ◌, Some, None, Option, sym, refl, ap, ◌∙◌, add-one, arith}
+use Rattle.std.proofs.Common.{◌≡◌, ℕ, zero, suc, ◌+◌, ◌<◌, min, ℤ, Option, sym, ap, ◌∙◌, add-one, arith}
 use Rattle.widths.specs.Merging.{less, join, step, row, width}
 use Rattle.widths.specs.Formula.{between, largest, moves, formula}
 use Rattle.widths.proofs.Options.{less-less, less_zero}

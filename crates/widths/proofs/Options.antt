@@ -1,8 +1,8 @@
 -- Laws of numbers that may be missing. Assumes nothing.
-use Rattle.std.proofs.Common.{◌≡◌, ℕ, zero, suc, ◌≤◌, ℤ, pos, ◌+ℤ◌, ◌-ℤ◌, ◌≤ℤ◌, Some, None, Option, refl, ap, arith}
+use Rattle.std.proofs.Common.{◌≡◌, ℕ, ℤ, pos, ◌+ℤ◌, ◌-ℤ◌, ◌≤ℤ◌, Some, None, Option, refl, ap, arith}
 use Rattle.std.specs.Int.{int_max}
 use Rattle.std.proofs.lemmas.Int.{ints, clamps, by_lt_z}
-use Rattle.widths.specs.Merging.{less, join, size, counted}
+use Rattle.widths.specs.Merging.{less, join, counted}
 use Rattle.widths.specs.Settling.{instead}
 
 max_less : (a b z : ℤ) → int_max a b -ℤ z ≡ int_max (a -ℤ z) (b -ℤ z)

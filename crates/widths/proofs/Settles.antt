@@ -1,11 +1,11 @@
 -- Merging settles. Assumes nothing.
-use Rattle.std.proofs.Common.{◌≡◌, ℕ, zero, suc, ◌<◌, ◌≤◌, ℤ, ◌+ℤ◌, ◌≤ℤ◌, Option, sym, refl, ap, ◌∙◌, subst, arith}
+use Rattle.std.proofs.Common.{◌≡◌, ℕ, ◌<◌, ◌≤◌, ℤ, ◌+ℤ◌, Option, sym, ap, ◌∙◌, subst, arith}
 use Rattle.std.proofs.lemmas.Int.{ints}
 use Rattle.extent.specs.Sizes.{Within, Near}
 use Rattle.widths.specs.Merging.{size, step, width}
 use Rattle.widths.specs.Formula.{between, moves, reach}
 use Rattle.widths.specs.Entries.{widest}
-use Rattle.widths.specs.Settling.{Tame, Sized, Settled, MergingSettles, instead}
+use Rattle.widths.specs.Settling.{MergingSettles}
 use Rattle.widths.proofs.Sums.{between-same}
 use Rattle.widths.proofs.Merges.{meets, only-merged}
 use Rattle.widths.proofs.Sizes.{WithinIf, row_near, right_near, left_near}

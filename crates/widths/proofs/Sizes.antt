@@ -1,9 +1,8 @@
 -- How large the merged numbers can become. Assumes nothing.
-use Rattle.std.proofs.Common.{◌≡◌, ℕ, zero, suc, ◌+◌, ◌*◌, ◌<◌, ◌≤◌, ℤ, pos, ◌+ℤ◌, ◌-ℤ◌, Some, None, Option, sym, refl, ap, ◌∙◌, subst, arith}
-use Rattle.std.specs.Int.{int_max}
+use Rattle.std.proofs.Common.{◌≡◌, ℕ, zero, suc, ◌+◌, ◌*◌, ◌≤◌, ℤ, pos, ◌+ℤ◌, Some, None, Option, sym, subst, arith}
 use Rattle.std.proofs.lemmas.Int.{ints, clamps}
 use Rattle.extent.specs.Sizes.{Within, Near}
-use Rattle.widths.specs.Merging.{less, join, size, counted, step, row, width}
+use Rattle.widths.specs.Merging.{less, join, size, step, row, width}
 use Rattle.widths.specs.Formula.{between, moves}
 use Rattle.widths.proofs.Sums.{between_none, between_more}
 

@@ -1,13 +1,12 @@
 -- Laws of W(i,j), the larger-of of the entries over columns i to j. Assumes nothing.
-use Rattle.std.proofs.Common.{◌≡◌, ℕ, zero, suc, ◌<◌, ◌≤◌, Bool, true, false, cond, ◌&&◌, eqb, List, [], ◌∷◌, ◌++◌, map, ℤ, pos, ◌+ℤ◌, ◌≤ℤ◌, Some, None, Option, sym, refl, ap, ◌∙◌, subst, ⊎_elim, arith}
+use Rattle.std.proofs.Common.{◌≡◌, ℕ, ◌&&◌, eqb, List, [], ◌∷◌, ◌++◌, ℤ, ◌≤ℤ◌, Some, None, Option, sym, refl, ap, ◌∙◌, subst, ⊎_elim, arith}
 use Rattle.std.specs.List.{AllByRecursion}
-use Rattle.std.specs.Int.{int_max}
 use Rattle.std.proofs.lemmas.Int.{ints, clamps}
-use Rattle.std.proofs.lemmas.Bool.{cond-true, cond-false, cases_Bool, and_parts, and_from, and_left, and_right, eq-eqb, eqb-true, ne_eqb}
+use Rattle.std.proofs.lemmas.Bool.{cond-true, cond-false, cases_Bool, and_parts, and_from, and_right, eq-eqb, eqb-true, ne_eqb}
 use Rattle.extent.specs.Sizes.{Within}
 use Rattle.widths.specs.declared.Entry.{Entry}
 use Rattle.widths.specs.Merging.{join}
-use Rattle.widths.specs.Entries.{asked, widest, sided, on_side, NoneEnds}
+use Rattle.widths.specs.Entries.{asked, widest, NoneEnds}
 use Rattle.widths.proofs.Options.{join-assoc, join-none, join-from, Above, join-above_left, join-above_right}
 use Rattle.widths.proofs.Sizes.{WithinIf}
 

@@ -1,6 +1,5 @@
-use Rattle.std.proofs.Common.{◌≡◌, ℕ, ◌<◌, ℤ, sym, refl, ap, ◌∙◌, subst, arith, w64, SFits, rules}
-use Rattle.std.proofs.lemmas.Int.{to_z-of_z}
-use Rattle.ledger.specs.Naturals.{out_z, beyond}
+use Rattle.std.proofs.Common.{◌≡◌, ℕ, ◌<◌, sym, ap, ◌∙◌, arith}
+use Rattle.ledger.specs.Naturals.{beyond}
 use Rattle.ledger.proofs.Beyonds.{beyond-none, beyond-more, beyond-at}
 use Rattle.ledger.proofs.sums.outside.Goals as goal
 

@@ -1,4 +1,4 @@
-use Rattle.std.proofs.Common.{◌≡◌, List, [], ◌∷◌, sym, refl, ap, ◌∙◌, rules}
+use Rattle.std.proofs.Common.{[], rules}
 use Rattle.rows.proofs.Grows.{bare-held, bare-fit}
 use Rattle.rows.proofs.acts.add_bare.Goals as goal
 

@@ -1,5 +1,4 @@
-use Rattle.std.proofs.Common.{◌≡◌, List, [], ◌∷◌, sym, ap, ◌∙◌, rules}
-use Rattle.rows.proofs.Overs.{set_over}
+use Rattle.std.proofs.Common.{[], rules}
 use Rattle.rows.proofs.Grows.{one-held, one-fit}
 use Rattle.rows.proofs.acts.add_item.Goals as goal
 

@@ -1,4 +1,4 @@
-use Rattle.std.proofs.Common.{◌≡◌, List, [], ◌∷◌, sym, refl, ap, ◌∙◌, rules}
+use Rattle.std.proofs.Common.{[], rules}
 use Rattle.rows.proofs.Grows.{part_held, part-fit}
 use Rattle.rows.proofs.acts.add_part.Goals as goal
 

@@ -1,4 +1,4 @@
-use Rattle.std.proofs.Common.{◌≡◌, List, [], ◌∷◌, sym, refl, ap, ◌∙◌, rules}
+use Rattle.std.proofs.Common.{[], refl, rules}
 use Rattle.rows.proofs.Grows.{entry-held, entry-fit}
 use Rattle.rows.proofs.acts.end_entry.Goals as goal
 

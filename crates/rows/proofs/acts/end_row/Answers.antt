@@ -1,4 +1,4 @@
-use Rattle.std.proofs.Common.{◌≡◌, List, [], ◌∷◌, sym, refl, ap, ◌∙◌, rules}
+use Rattle.std.proofs.Common.{[], rules}
 use Rattle.rows.proofs.Grows.{line-held, line-fit}
 use Rattle.rows.proofs.acts.end_row.Goals as goal
 

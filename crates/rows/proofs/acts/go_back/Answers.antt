@@ -1,6 +1,5 @@
-use Rattle.std.proofs.Common.{◌≡◌, List, [], ◌∷◌, sym, refl, ap, ◌∙◌, rules}
+use Rattle.std.proofs.Common.{[], rules}
 use Rattle.rows.proofs.Grows.{empty-held, empty-fit}
-use Rattle.rows.proofs.Counts.{text-count, items-count, entries-count}
 use Rattle.rows.proofs.acts.go_back.Goals as goal
 
 pub returns : goal.returns

@@ -1,4 +1,4 @@
-use Rattle.std.proofs.Common.{◌≡◌, ℕ, ◌+◌, ◌-◌, ◌<◌, ◌≤◌, min, true, false, length, sym, refl, ap, ◌∙◌, subst, arith}
+use Rattle.std.proofs.Common.{ℕ, ◌+◌, ◌<◌, true, false, length, sym, refl, ap, ◌∙◌, arith}
 use Rattle.ledger.specs.declared.records.Room.{Room}
 use Rattle.rows.specs.declared.state.State.{State}
 use Rattle.ledger.specs.Calls.{lacking, used_items, used_entries, used_lines, used_text, bytes_in}

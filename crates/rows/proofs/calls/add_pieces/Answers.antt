@@ -1,4 +1,4 @@
-use Rattle.std.proofs.Common.{◌≡◌, ℕ, ◌+◌, ◌-◌, ◌≤◌, [], length, take, drop, sym, refl, ap, ◌∙◌, arith}
+use Rattle.std.proofs.Common.{◌≡◌, ℕ, ◌+◌, ◌-◌, [], length, take, drop, ap, ◌∙◌, arith}
 use Rattle.ledger.specs.Items.{taken, decoded_items}
 use Rattle.rows.specs.Held.{held_of, pushed}
 use Rattle.rows.specs.Good.{moved_on}

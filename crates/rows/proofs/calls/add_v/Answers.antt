@@ -1,9 +1,8 @@
-use Rattle.std.proofs.Common.{◌≡◌, ℕ, ◌+◌, ◌-◌, ◌<◌, ◌≤◌, min, List, [], length, get_or, ◌+ℤ◌, sym, refl, ap, ◌∙◌, subst, arith, rules}
+use Rattle.std.proofs.Common.{◌≡◌, ℕ, ◌+◌, ◌<◌, ◌≤◌, min, List, [], length, get_or, ◌+ℤ◌, sym, refl, ap, ◌∙◌, subst, arith, rules}
 use Rattle.std.proofs.lemmas.List.{get_or_default}
 use Rattle.extent.specs.Sizes.{Near}
 use Rattle.ledger.specs.declared.records.Owed.{Owed}
 use Rattle.rows.specs.declared.state.Stage.{Stage}
-use Rattle.rows.specs.declared.state.Stage.TheVariants.{Closed, Fresh, Begun, Omitted}
 use Rattle.rows.specs.declared.state.State.{State}
 use Rattle.ledger.specs.declared.records.ItemRecord.{ItemRecord}
 use Rattle.rows.specs.Held.{held_of, pushed}

@@ -1,9 +1,8 @@
-use Rattle.std.proofs.Common.{◌≡◌, ℕ, ◌+◌, ◌-◌, ◌<◌, ◌≤◌, min, length, sym, refl, ap, ◌∙◌, subst, arith}
+use Rattle.std.proofs.Common.{◌+◌, ◌-◌, sym, ap, ◌∙◌, arith}
 use Rattle.rows.specs.declared.state.State.{State}
-use Rattle.rows.specs.declared.state.Stage.{Stage}
 use Rattle.rows.specs.declared.state.Marks.{Marks}
-use Rattle.rows.specs.Held.{Held, closed, held_of}
-use Rattle.rows.specs.Good.{Lens, one}
+use Rattle.rows.specs.Held.{held_of}
+use Rattle.rows.specs.Good.{Lens}
 use Rattle.rows.proofs.Rooms.{begun-one, closed_same, entry-same}
 use Rattle.rows.proofs.calls.finish.Goals as goal
 

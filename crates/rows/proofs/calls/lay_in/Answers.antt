@@ -1,8 +1,7 @@
-use Rattle.std.proofs.Common.{◌≡◌, ℕ, ◌+◌, ◌-◌, ◌<◌, ◌≤◌, min, eqb, length, sym, refl, ap, ◌∙◌, subst, arith}
+use Rattle.std.proofs.Common.{◌-◌, ◌<◌, eqb, length, sym, refl, ap, ◌∙◌, arith}
 use Rattle.rows.specs.declared.state.State.{State}
-use Rattle.rows.specs.declared.state.Stage.{Stage}
-use Rattle.rows.specs.Held.{Held, laid_down, held_of}
-use Rattle.rows.specs.Good.{Lens, one, begun_in, ledger_of}
+use Rattle.rows.specs.Held.{laid_down, held_of}
+use Rattle.rows.specs.Good.{Lens, begun_in, ledger_of}
 use Rattle.rows.proofs.Rooms.{begun-one, begun-at, both, lay_yes, lay_ledger, v-owed}
 use Rattle.rows.specs.declared.state.Stage.TheVariants.{Closed}
 use Rattle.rows.proofs.Lays.{lay_sound}

@@ -1,12 +1,11 @@
-use Rattle.std.proofs.Common.{◌≡◌, ℕ, ◌+◌, ◌-◌, ◌<◌, ◌≤◌, min, true, false, eqb, leb, length, sym, refl, ap, ◌∙◌, subst, arith}
+use Rattle.std.proofs.Common.{◌≡◌, ℕ, ◌+◌, ◌<◌, true, false, eqb, leb, length, sym, refl, ap, ◌∙◌, arith}
 use Rattle.std.proofs.lemmas.List.{length-map}
 use Rattle.std.proofs.lemmas.Bool.Decides.{nat_tests}
 use Rattle.ledger.specs.declared.records.Room.{Room}
-use Rattle.rows.specs.declared.state.State.{State}
 use Rattle.ledger.specs.Calls.{lacking, used_items, used_entries, used_lines, used_text, template_at}
-use Rattle.rows.specs.Held.{held_of, FitBy}
-use Rattle.rows.specs.Good.{column_at, templates_of, template_of, room_in, ledger_of, Lens, owed, one, begun_in}
-use Rattle.rows.proofs.Rooms.{begun-one, begun-at, both, enough, u-length, v-length, v-owed, tab_ledger}
+use Rattle.rows.specs.Held.{held_of}
+use Rattle.rows.specs.Good.{column_at, templates_of, template_of, room_in, ledger_of, owed, begun_in}
+use Rattle.rows.proofs.Rooms.{begun-one, begun-at, both, enough, u-length, v-length}
 use Rattle.rows.proofs.Adds.{next-lacks, next-verdict, second}
 use Rattle.rows.proofs.calls.next_fault.Goals as goal
 

@@ -1,4 +1,4 @@
-use Rattle.std.proofs.Common.{◌≡◌, true, eqb, List, map, ℤ, ◌+ℤ◌, sym, refl, ap, ◌∙◌, subst, rules}
+use Rattle.std.proofs.Common.{eqb, List, map, ◌+ℤ◌, sym, refl, ap, ◌∙◌, subst, rules}
 use Rattle.extent.specs.Sizes.{Within}
 use Rattle.rows.specs.declared.state.Stage.TheVariants.{Omitted}
 use Rattle.ledger.specs.Ledger.{Item}

@@ -1,10 +1,10 @@
-use Rattle.std.proofs.Common.{◌≡◌, ℕ, ◌+◌, ◌-◌, ◌<◌, ◌≤◌, min, true, false, [], length, take, sym, refl, ap, ◌∙◌, subst, arith}
+use Rattle.std.proofs.Common.{◌+◌, true, false, [], take, sym, refl, ap, ◌∙◌, arith}
 use Rattle.std.specs.List.{flat_map}
 use Rattle.ledger.specs.declared.records.Room.{Room}
 use Rattle.rows.specs.declared.state.State.{State}
 use Rattle.ledger.specs.Calls.{lacking, entries_in}
 use Rattle.rows.specs.Held.{Held, held_of, line_of}
-use Rattle.rows.specs.Good.{column_at, templates_of, room_in, ledger_of, Lens, one, owed, open_in}
+use Rattle.rows.specs.Good.{column_at, templates_of, room_in, Lens, one, owed, open_in}
 use Rattle.rows.proofs.Rooms.{rule-verdict, rule-ledger, closed_none, enough}
 use Rattle.rows.proofs.Adds.{same-ledger}
 use Rattle.rows.proofs.Sounds.{closed-sound, bare-entries}

@@ -1,14 +1,14 @@
-use Rattle.std.proofs.Common.{◌≡◌, ℕ, ◌+◌, ◌-◌, ◌<◌, ◌≤◌, min, true, false, eqb, List, length, take, ℤ, ◌+ℤ◌, sym, refl, ap, ◌∙◌, subst, arith}
+use Rattle.std.proofs.Common.{◌≡◌, ℕ, ◌+◌, ◌<◌, ◌≤◌, min, true, false, eqb, List, length, take, ℤ, ◌+ℤ◌, sym, refl, ap, ◌∙◌, subst, arith}
 use Rattle.std.specs.List.{flat_map}
 use Rattle.extent.specs.Sizes.{Within}
 use Rattle.rows.specs.declared.state.State.{State}
 use Rattle.rows.specs.declared.state.Stage.{Stage}
-use Rattle.rows.specs.declared.state.Stage.TheVariants.{Fresh, Begun}
+use Rattle.rows.specs.declared.state.Stage.TheVariants.{Begun}
 use Rattle.ledger.specs.Ledger.{Item, Ledger}
 use Rattle.ledger.specs.Calls.{template_at, entries_in, done_of}
 use Rattle.rows.specs.Held.{Held, held_of}
 use Rattle.ledger.specs.Naturals.{natural, items_now, owed_of}
-use Rattle.rows.specs.Good.{column_at, templates_of, room_in, ledger_of, ledger_by, Lens, one, owed, fresh_in}
+use Rattle.rows.specs.Good.{column_at, templates_of, ledger_of, Lens, one, owed, fresh_in}
 use Rattle.rows.proofs.Rooms.{fresh_at_lem, both}
 use Rattle.rows.proofs.Adds.{start-verdict, start_is, start-sum, start-ledger, second, fresh-is, fresh-open, same-ledger, inside}
 use Rattle.ledger.proofs.Beyonds.{natural-append, beyond-not}

@@ -1,8 +1,8 @@
-use Rattle.std.proofs.Common.{◌≡◌, ℕ, ◌+◌, ◌-◌, ◌<◌, ◌≤◌, min, length, None, sym, refl, ap, ◌∙◌, subst, arith}
+use Rattle.std.proofs.Common.{ℕ, ◌+◌, ◌-◌, ◌<◌, length, sym, ap, ◌∙◌, subst, arith}
 use Rattle.rows.specs.declared.state.Marks.{Marks}
 use Rattle.rows.specs.declared.state.Stage.TheVariants.{Fresh}
 use Rattle.rows.specs.Held.{Held, held_of, FitBy}
-use Rattle.rows.specs.Good.{Lens, Goes, ledger_by}
+use Rattle.rows.specs.Good.{Lens, Goes}
 use Rattle.rows.proofs.Rooms.{begun-one, v-owed, tab_ledger}
 use Rattle.std.specs.List.{flat_map}
 use Rattle.ledger.specs.Calls.{entries_in}

@@ -1,11 +1,11 @@
-use Rattle.std.proofs.Common.{◌≡◌, ℕ, ◌+◌, ◌-◌, ◌<◌, ◌≤◌, min, true, false, length, take, sym, refl, ap, ◌∙◌, subst, arith, rules}
+use Rattle.std.proofs.Common.{ℕ, ◌+◌, ◌<◌, true, false, length, take, sym, refl, ap, ◌∙◌, subst, arith}
 use Rattle.std.specs.List.{flat_map}
 use Rattle.ledger.specs.declared.records.Room.{Room}
 use Rattle.rows.specs.declared.state.State.{State}
-use Rattle.rows.specs.declared.state.Stage.TheVariants.{Closed, Fresh, Begun, Omitted}
+use Rattle.rows.specs.declared.state.Stage.TheVariants.{Fresh}
 use Rattle.ledger.specs.Calls.{lacking, entries_in}
 use Rattle.rows.specs.Held.{Held, FitBy}
-use Rattle.rows.specs.Good.{column_at, templates_of, room_in, ledger_of, ledger_by, Lens}
+use Rattle.rows.specs.Good.{column_at, templates_of, room_in, ledger_by, Lens}
 use Rattle.rows.proofs.Rooms.{take-verdict, u-length, v-length, enough}
 use Rattle.rows.proofs.Sounds.{fresh-sound}
 use Rattle.rows.proofs.calls.take_in.Goals as goal

@@ -1,10 +1,10 @@
-use Rattle.std.proofs.Common.{◌≡◌, ℕ, zero, suc, ◌+◌, ◌<◌, ◌≤◌, get_or, set, ℤ, pos, ◌+ℤ◌, Some, None, Option, sym, refl, ap, ◌∙◌, subst, ⊎_elim, add-one, arith, w64, SFits, rules}
+use Rattle.std.proofs.Common.{◌≡◌, ℕ, ◌+◌, ◌<◌, get_or, set, ℤ, pos, ◌+ℤ◌, Some, None, Option, sym, ap, ◌∙◌, subst, ⊎_elim, add-one, arith, w64, SFits, rules}
 use Rattle.std.proofs.lemmas.Int.{to_z-of_z, ints}
 use Rattle.std.proofs.lemmas.List.{get_or-set_same, get_or-set_other, get_or_read}
 use Rattle.std.proofs.lemmas.Bool.{cases_eq}
 use Rattle.extent.specs.Sizes.{Near}
-use Rattle.widths.specs.Merging.{seen, size, counted, step}
-use Rattle.widths.specs.Formula.{between, moves, edge, natural}
+use Rattle.widths.specs.Merging.{seen, size, counted}
+use Rattle.widths.specs.Formula.{moves, edge, natural}
 use Rattle.widths.proofs.Sums.{between_none, between_more}
 use Rattle.spans.specs.Tables.{column, starting, after, SizedOn}
 use Rattle.spans.proofs.edges.place_edges.Goals as goal

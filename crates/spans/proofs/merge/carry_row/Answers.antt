@@ -1,8 +1,8 @@
-use Rattle.std.proofs.Common.{◌≡◌, ℕ, ◌+◌, ◌*◌, ◌<◌, ◌≤◌, ◌≢◌, length, get_or, set, Some, None, sym, ap, ◌∙◌, subst, ⊎_elim, arith, rules}
+use Rattle.std.proofs.Common.{◌≡◌, ℕ, ◌+◌, ◌≢◌, get_or, set, None, sym, ap, ◌∙◌, subst, ⊎_elim, arith}
 use Rattle.std.proofs.lemmas.List.{get_or-set_same, get_or-set_other, get_or_read}
 use Rattle.std.proofs.lemmas.Bool.{cases_eq}
 use Rattle.extent.specs.Sizes.{Near}
-use Rattle.widths.specs.Merging.{seen, less, join, size}
+use Rattle.widths.specs.Merging.{seen, size}
 use Rattle.spans.specs.Tables.{cell}
 use Rattle.spans.proofs.merge.carry_row.Goals as goal
 

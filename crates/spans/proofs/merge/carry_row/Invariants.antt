@@ -1,4 +1,4 @@
-use Rattle.std.proofs.Common.{◌≡◌, ℕ, ◌+◌, ◌<◌, ◌≤◌, get_or, Some, None}
+use Rattle.std.proofs.Common.{◌≡◌, ℕ, ◌+◌, ◌<◌, ◌≤◌, get_or, None}
 use Rattle.extent.specs.Sizes.{Near}
 use Rattle.widths.specs.Merging.{seen, less, join, size}
 use Rattle.spans.specs.Tables.{cell}

@@ -1,4 +1,4 @@
-use Rattle.std.proofs.Common.{◌≡◌, ℕ, ◌+◌, ◌*◌, ◌<◌, ◌≤◌, min, get_or, ℤ, pos, Some, None, Option, sym, ap, ◌∙◌, subst, ⊎_elim, zero-add, arith, w64, SFits, rules}
+use Rattle.std.proofs.Common.{◌≡◌, ℕ, ◌+◌, ◌≤◌, min, get_or, ℤ, pos, None, Option, sym, ap, ◌∙◌, subst, ⊎_elim, zero-add, arith, w64, SFits, rules}
 use Rattle.std.proofs.lemmas.Int.{to_z-of_z, ints}
 use Rattle.std.proofs.lemmas.List.{get_or_read}
 use Rattle.std.proofs.lemmas.Bool.{cases_lt}

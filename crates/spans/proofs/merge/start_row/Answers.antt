@@ -1,4 +1,4 @@
-use Rattle.std.proofs.Common.{get_or, None, ap, ◌∙◌, arith, rules, below_more}
+use Rattle.std.proofs.Common.{get_or, None, ap, ◌∙◌, arith, below_more}
 use Rattle.std.proofs.lemmas.List.{get_or-set_same, get_or-set_other}
 use Rattle.spans.proofs.merge.start_row.Goals as goal
 

@@ -1,4 +1,4 @@
-use Rattle.std.proofs.Common.{None, ◌∙◌, arith, rules, below_more}
+use Rattle.std.proofs.Common.{None, ◌∙◌, arith, below_more}
 use Rattle.std.proofs.lemmas.List.{get_or-set_same, get_or-set_other}
 use Rattle.spans.proofs.table.empty_cells.Goals as goal
 

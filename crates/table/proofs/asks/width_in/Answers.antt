@@ -1,4 +1,4 @@
-use Rattle.std.proofs.Common.{◌≡◌, ℕ, ◌+◌, ◌-◌, ◌<◌, ◌≤◌, List, map, length, get_or, take, ℤ, pos, sym, refl, ap, ◌∙◌, subst, arith, rules}
+use Rattle.std.proofs.Common.{◌≡◌, ℕ, ◌-◌, List, map, length, get_or, take, ℤ, pos, sym, ap, ◌∙◌, subst, arith}
 use Rattle.extent.specs.Sizes.{Within}
 use Rattle.widths.specs.Merging.{width}
 use Rattle.widths.specs.Entries.{widest}

@@ -1,5 +1,4 @@
-use Rattle.std.proofs.Common.{◌≡◌, ℕ, ◌<◌, List, [], ◌∷◌, map, length, take, set, ℤ, pos, refl, ap, ◌∙◌, rules}
-use Rattle.lengths.specs.declared.gap.Gap.{Gap}
+use Rattle.std.proofs.Common.{◌<◌, [], ◌∷◌, map, length, ℤ, refl, ap, ◌∙◌, rules}
 use Rattle.lengths.specs.Gaps.{Parts, parts_of}
 use Rattle.ledger.specs.declared.records.Owed.{Owed}
 use Rattle.templates.specs.Kept.{u_stored, v_stored}

@@ -1,4 +1,4 @@
-use Rattle.std.proofs.Common.{◌≡◌, ℕ, List, [], take, ℤ, Result, sym, refl, ap, ◌∙◌, subst}
+use Rattle.std.proofs.Common.{◌≡◌, ℕ, [], take, ℤ, Result, sym, refl, ap, ◌∙◌, subst}
 use Rattle.faults.specs.declared.Fault.{Fault}
 use Rattle.ledger.specs.Ledger.{Item}
 use Rattle.ledger.specs.Naturals.{wide_by}

@@ -1,6 +1,5 @@
-use Rattle.std.proofs.Common.{◌≡◌, ℕ, ◌+◌, length, get_or, ℤ, pos, None, sym, ap, ◌∙◌, rules}
-use Rattle.widths.specs.Entries.{Proper, on_side, sided}
-use Rattle.widths.specs.Settling.{Tame}
+use Rattle.std.proofs.Common.{◌≡◌, ◌+◌, length, get_or, ℤ, pos, None, sym, ap, ◌∙◌, rules}
+use Rattle.widths.specs.Entries.{on_side}
 use Rattle.widths.proofs.Settles.{merging_settles}
 use Rattle.spans.specs.Tables.{starting, after, column}
 use Rattle.spans.specs.Refusals.{merge_fault, unless}

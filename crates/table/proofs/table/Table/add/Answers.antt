@@ -1,4 +1,4 @@
-use Rattle.std.proofs.Common.{Some, None, Option, refl, ap}
+use Rattle.std.proofs.Common.{Option, refl, ap}
 use Rattle.faults.specs.declared.Fault.{Fault}
 use Rattle.table.specs.Promises.{unless}
 use Rattle.table.proofs.Verdicts.{same-room}

@@ -1,5 +1,4 @@
-use Rattle.std.proofs.Common.{◌≡◌, ℕ, ◌+◌, ◌-◌, ◌<◌, ◌≤◌, Bool, true, false, not, leb, List, map, length, get_or, take, ℤ, pos, Some, None, Ok, Err, Option, Result, sym, refl, ap, ◌∙◌, subst, arith, rules}
-use Rattle.std.proofs.lemmas.List.{get_or_default}
+use Rattle.std.proofs.Common.{◌≡◌, ℕ, ◌+◌, ◌-◌, ◌<◌, ◌≤◌, Bool, true, false, not, leb, map, length, get_or, ℤ, pos, Err, Option, sym, ap, ◌∙◌, arith, rules}
 use Rattle.std.proofs.lemmas.Bool.{leb-true, and_parts}
 use Rattle.faults.specs.declared.Fault.{Fault}
 use Rattle.widths.specs.Merging.{seen}
@@ -9,7 +8,7 @@ use Rattle.ledger.specs.Calls.{when}
 use Rattle.ledger.specs.Naturals.{wide_by, natural_by, fault_in}
 use Rattle.rows.specs.Good.{ledger_of}
 use Rattle.rows.proofs.Asking.{sound-settles}
-use Rattle.table.specs.Promises.{has_column, no_column, answer_on, ask_on}
+use Rattle.table.specs.Promises.{has_column, no_column, answer_on}
 use Rattle.table.specs.Views.{lengths_in}
 use Rattle.ledger.specs.Calls.{laid_entries}
 use Rattle.table.proofs.Askings.{lengths-within, asked-none, asked-some}

@@ -1,18 +1,12 @@
-use Rattle.std.proofs.Common.{◌≡◌, ℕ, ◌+◌, ◌-◌, ◌≤◌, min, List, map, length, take, ℤ, Ok, Err, Result, sym, refl, ap, ◌∙◌, subst, arith, rules}
+use Rattle.std.proofs.Common.{◌≡◌, ℕ, ◌-◌, ◌≤◌, min, length, take, ℤ, sym, refl, ap, ◌∙◌, subst, arith}
 use Rattle.std.proofs.lemmas.List.{length-take-le}
-use Rattle.faults.specs.declared.Fault.{Fault}
-use Rattle.lengths.specs.Gaps.{Parts, parts_of}
-use Rattle.ledger.specs.declared.records.Room.{Room}
-use Rattle.ledger.specs.Ledger.{Item, Ledger}
-use Rattle.ledger.specs.Calls.{Template}
+use Rattle.ledger.specs.Ledger.{Item}
 use Rattle.ledger.specs.Naturals.{wide_by}
-use Rattle.ledger.specs.Preambles.{Preamble}
 use Rattle.rows.specs.declared.state.State.{State}
 use Rattle.rows.specs.declared.state.Memory.{Memory}
-use Rattle.rows.specs.Good.{Good, Sane, ledger_of, unused}
-use Rattle.rows.specs.Sound.{Sound}
+use Rattle.rows.specs.Good.{Good, ledger_of}
 use Rattle.rows.proofs.News.{good-sane, new-ledger}
-use Rattle.table.specs.Making.{start_of, read_from, templates_made, gaps_made, lines_kept, bytes_read, room_made}
+use Rattle.table.specs.Making.{start_of, read_from, templates_made, gaps_made, lines_kept}
 use Rattle.table.proofs.Shapes.{templates-are, gaps-are, starts-good, starts-sound, room-made, lines-upto}
 use Rattle.table.proofs.table.Table.make.Goals as goal
 

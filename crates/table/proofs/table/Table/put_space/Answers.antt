@@ -1,10 +1,7 @@
-use Rattle.std.proofs.Common.{◌≡◌, ℕ, ◌<◌, ◌≤◌, Bool, true, false, cond, not, length, ℤ, pos, None, Ok, Option, Result, sym, refl, ap, ◌∙◌, subst, arith, Bor}
-use Rattle.std.proofs.lemmas.Int.{ints}
+use Rattle.std.proofs.Common.{◌≡◌, ℕ, true, ℤ, None, Option, sym, refl, ap, ◌∙◌, subst, arith, Bor}
 use Rattle.faults.specs.declared.Fault.{Fault}
-use Rattle.extent.specs.Sizes.{Within}
-use Rattle.measure.specs.declared.measurer.Metrics.{Metrics}
-use Rattle.ledger.specs.Ledger.{Item, cell_word, space, kern, hfil}
-use Rattle.ledger.specs.Naturals.{wide_by, word_by, item_fault, fault_in, add_verdict}
+use Rattle.ledger.specs.Ledger.{Item, space}
+use Rattle.ledger.specs.Naturals.{wide_by, item_fault}
 use Rattle.rows.specs.Sound.{Sound}
 use Rattle.rows.specs.Held.{held_of}
 use Rattle.rows.specs.Good.{templates_of, room_in, ledger_of, begun_in}

@@ -1,4 +1,4 @@
-use Rattle.std.proofs.Common.{length, arith}
+use Rattle.std.proofs.Common.{arith}
 use Rattle.std.proofs.lemmas.List.{length-map}
 use Rattle.rows.specs.Good.{template_of, templates_of, room_in, ledger_of}
 use Rattle.table.proofs.Verdicts.{next-within}
