@@ -9,6 +9,7 @@ use report::{Stop, print_job, report};
 use std::alloc::{AllocError, Global};
 use std::io;
 use std::io::{BufRead, BufReader};
+use std::process::ExitCode;
 use widths::Entry;
 
 // Reads the job, or says which line is wrong and why.
@@ -77,10 +78,10 @@ fn run(rt: &HostRuntime) -> Result<bool, Stop> {
 }
 
 // The status is 1 where a line is wrong or the output fails.
-fn main(rt: HostRuntime) -> Result<(), ()> {
+fn main(rt: HostRuntime) -> ExitCode {
     match run(&rt) {
-        Ok(true) => Ok(()),
-        Ok(false) => Err(()),
-        Err(_) => Err(()),
+        Ok(true) => ExitCode::SUCCESS,
+        Ok(false) => ExitCode::FAILURE,
+        Err(_) => ExitCode::FAILURE,
     }
 }
