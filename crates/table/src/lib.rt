@@ -6,6 +6,6 @@ pub mod cells;
 pub mod lines;
 pub mod make;
 pub mod puts;
-pub mod rows;
+pub mod row_calls;
 pub mod table;
 pub mod work;
