@@ -2,8 +2,8 @@
 use Rattle.std.proofs.Common.{◌≡◌, ℕ, ◌^◌, ◌≤◌, true, ◌&&◌, leb, ◌⊎◌, List, length, ℤ, pos, negsuc, Decides, refl, inl, inr, ⊎_elim, arith}
 use Rattle.std.specs.List.{AllByRecursion}
 use Rattle.std.proofs.lemmas.Int.{ints}
-use Rattle.std.proofs.lemmas.Bool.{false≢true, leb-true, le-leb, ltb-true, lt-ltb}
-use Rattle.std.proofs.lemmas.Bool.Decides.{Decides-and, Decides-like}
+use Rattle.std.proofs.lemmas.Bool.{false≢true, leb-true, le-leb}
+use Rattle.std.proofs.lemmas.Bool.Decides.{Decides-and, Decides-like, Decides-ltb}
 use Rattle.std.proofs.ByRecursion.{Decides-by_and}
 use Rattle.boxlist.specs.declared.Kind.{Kind}
 use Rattle.boxlist.specs.declared.Kind.TheVariants as kinds
@@ -18,7 +18,7 @@ decides_leb a b = (leb-true a b, le-leb a b)
 
 decides_sized : (z : ℤ) → Decides (sized z) (Sized z)
 decides_sized (pos n) = decides_leb n (2 ^ 40)
-decides_sized (negsuc n) = (ltb-true n (2 ^ 40), lt-ltb n (2 ^ 40))
+decides_sized (negsuc n) = Decides-ltb n (2 ^ 40)
 
 decides_counted : (z : ℤ) → Decides (counted z) (Counted z)
 decides_counted (pos n) = (λ e. (leb-true n (2 ^ 40) e, omega (arith, ints)), λ p. le-leb n (2 ^ 40) p.0)
@@ -34,8 +34,8 @@ decides_store (stores.Unlisted n) = (
   λ e. absurd (false≢true e),
   λ p.
       ⊎_elim
-      (λ e. let z : ◌≡◌ {A = ℕ} 0 1 = cc in absurd (omega arith))
-      (λ e. let z : ◌≡◌ {A = ℕ} 0 1 = cc in absurd (omega arith))
+      (λ e. absurd (cc))
+      (λ e. absurd (cc))
       p,
 )
 
@@ -68,15 +68,15 @@ decides_kind kinds.Word r k =
     (Decides-and (good_frame r) (good_part r) (decides_frame r) (decides_part r))
 decides_kind kinds.Rule r k =
     Decides-like (good_frame r)
-    (λ p. record { listed = inr k; across = p.0; down = p.1.0; wide = p.1.1.0; above = p.1.1.1.0; below = p.1.1.1.1; part = λ e. let z : ◌≡◌ {A = ℕ} 0 1 = cc in absurd (omega arith) })
+    (λ p. record { listed = inr k; across = p.0; down = p.1.0; wide = p.1.1.0; above = p.1.1.1.0; below = p.1.1.1.1; part = λ e. absurd (cc) })
     (framed r)
     (decides_frame r)
 decides_kind (kinds.Unlisted n) r k = (
   λ e. absurd (false≢true e),
   λ w.
       ⊎_elim
-      (λ e. let z : ◌≡◌ {A = ℕ} 0 1 = cc in absurd (omega arith))
-      (λ e. let z : ◌≡◌ {A = ℕ} 0 1 = cc in absurd (omega arith))
+      (λ e. absurd (cc))
+      (λ e. absurd (cc))
       w.listed,
 )
 

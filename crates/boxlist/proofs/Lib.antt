@@ -1,12 +1,11 @@
 pub mod Overs
-pub mod Joins
 pub mod Steps
 pub mod Spelling
 pub mod Folds
 pub mod Decided
-pub mod Goods
 pub mod Telling
 pub mod Sizes
 pub mod Outcomes
 pub mod Fetching
 pub mod Bytes
+pub mod Joins

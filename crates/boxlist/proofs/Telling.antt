@@ -2,6 +2,7 @@
 use Rattle.std.proofs.Common.{◌≡◌, ℕ, ◌⊎◌, List, [], ◌∷◌, ◌++◌, map, length, ℤ, pos, negsuc, sym, refl, ap, ◌∙◌, ⊎_elim, arith}
 use Rattle.std.specs.List.{flat_map, AllByRecursion}
 use Rattle.std.proofs.lemmas.List.{append_assoc, length-map}
+use Rattle.std.proofs.lemmas.List.Concat.{flat_map-append}
 use Rattle.std.proofs.lemmas.Int.{ints}
 use Rattle.boxlist.specs.declared.Kind.{Kind}
 use Rattle.boxlist.specs.declared.Kind.TheVariants as kinds
@@ -11,7 +12,6 @@ use Rattle.boxlist.specs.declared.BoxRecord.{BoxRecord}
 use Rattle.boxlist.specs.Groups.{groups_of, all_groups}
 use Rattle.boxlist.specs.Format.{kind_number, store_number, natural, frame_numbers, part_numbers, only_of_words, box_numbers, head_numbers, list_numbers, bytes_of_box, bytes_of}
 use Rattle.boxlist.specs.Lists.{Counted, WritableBox, Writable, plain_by, plain, Alike}
-use Rattle.boxlist.proofs.Joins.{joined-append}
 use Rattle.boxlist.proofs.Spelling.{rows_apart}
 use Rattle.boxlist.proofs.Folds.{folds_apart}
 use Rattle.boxlist.proofs.Bytes.{bytes-list}
@@ -21,14 +21,14 @@ unfolding bytes_of_box
 joined-boxes [] = refl
 joined-boxes (r ∷ rs) =
     ap (λ (l : List ℕ). all_groups (box_numbers r) ++ l) (joined-boxes rs)
-    ∙ sym (joined-append groups_of (box_numbers r) (flat_map box_numbers rs))
+    ∙ sym (flat_map-append groups_of (box_numbers r) (flat_map box_numbers rs))
 
 -- the bytes of a list are those of its numbers
 pub bytes-numbers : (t h : ℤ) (boxes : List BoxRecord) → bytes_of t h boxes ≡ all_groups (list_numbers t h boxes)
 bytes-numbers t h boxes =
     bytes-list t h boxes
     ∙ ap (λ (l : List ℕ). all_groups (head_numbers t h (length boxes)) ++ l) (joined-boxes boxes)
-    ∙ sym (joined-append groups_of (head_numbers t h (length boxes)) (flat_map box_numbers boxes))
+    ∙ sym (flat_map-append groups_of (head_numbers t h (length boxes)) (flat_map box_numbers boxes))
 
 -- a number from zero up is told
 natural-apart : (y z : ℤ) → Counted y → Counted z → natural y ≡ natural z → y ≡ z
@@ -78,7 +78,7 @@ Told a b r s = (plain a ≡ plain b) × (r ≡ s)
 framed : (a : BoxRecord) (r : List ℕ) → bytes_of_box a ++ r ≡ all_groups (frame_numbers a) ++ (all_groups (only_of_words a.kind (part_numbers a)) ++ r)
 unfolding bytes_of_box
 framed a r =
-    ap (λ (l : List ℕ). l ++ r) (joined-append groups_of (frame_numbers a) (only_of_words a.kind (part_numbers a)))
+    ap (λ (l : List ℕ). l ++ r) (flat_map-append groups_of (frame_numbers a) (only_of_words a.kind (part_numbers a)))
     ∙ append_assoc (all_groups (frame_numbers a)) (all_groups (only_of_words a.kind (part_numbers a))) r
 
 box_told : (a b : BoxRecord) (r s : List ℕ) → WritableBox a → WritableBox b → bytes_of_box a ++ r ≡ bytes_of_box b ++ s → Told a b r s

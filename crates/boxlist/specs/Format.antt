@@ -6,6 +6,7 @@ use Rattle.boxlist.specs.declared.Kind.TheVariants as kinds
 use Rattle.boxlist.specs.declared.Store.{Store}
 use Rattle.boxlist.specs.declared.Store.TheVariants as stores
 use Rattle.boxlist.specs.declared.BoxRecord.{BoxRecord}
+use Rattle.boxlist.specs.declared.BoxList.{BoxList}
 use Rattle.boxlist.specs.Groups.{all_groups, zigzag}
 
 -- an unlisted kind is never written
@@ -57,3 +58,7 @@ bytes_of_box r = all_groups (box_numbers r)
 -- the bytes of a list
 unfoldable pub bytes_of : ℤ → ℤ → List BoxRecord → List ℕ
 bytes_of t h boxes = all_groups (head_numbers t h (length boxes)) ++ flat_map bytes_of_box boxes
+
+-- what is said of a width, a height and boxes, said of the list that has them
+abbrev pub of_list {ℓ} : {A : Type ℓ} → (ℤ → ℤ → List BoxRecord → A) → BoxList → A
+of_list says l = says l.width l.height l.boxes.now

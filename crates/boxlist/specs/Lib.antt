@@ -5,3 +5,4 @@ pub mod Format
 pub mod Writing
 pub mod Lists
 pub mod Parts
+pub mod Outputs

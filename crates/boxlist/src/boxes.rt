@@ -1,11 +1,12 @@
 //! Boxes as numbers: which are written, how many bytes they take, and the bytes.
 ghost use Rattle.std.specs.Prelude.{◌≡◌, ◌+◌, ◌*◌, ◌^◌, ◌≤◌, length};
-ghost use Rattle.std.specs.List.{flat_map};
+ghost use Rattle.std.specs.List.{flat_map, list_all};
 ghost use Rattle.boxlist.specs.Over.{over};
-ghost use Rattle.boxlist.specs.Format.{kind_number, store_number, natural, frame_numbers, part_numbers, bytes_of_box, bytes_of, head_numbers};
-ghost use Rattle.boxlist.specs.Writing.{sized, counted, good_frame, good_part, good_box, good_boxes, good_head, writable};
+ghost use Rattle.boxlist.specs.Outputs.{HasRoom, Added};
+ghost use Rattle.boxlist.specs.Format.{kind_number, store_number, frame_numbers, part_numbers, bytes_of_box, bytes_of, head_numbers, of_list};
+ghost use Rattle.boxlist.specs.Writing.{sized, counted, good_frame, good_part, good_box, good_head, writable};
 
-use crate::numbers::{count_all, fold_sign, put_all};
+use crate::numbers::{Output, count_all, fold_sign, unsigned};
 use crate::{BoxList, BoxRecord, Kind, Store};
 
 // The largest size of a number in a list.
@@ -15,200 +16,196 @@ const LARGEST: i64 = 1 << 40;
 fn is_sized(n: i64) -> bool
     ensures { result ≡ sized n }
 {
-    -LARGEST <= n && n <= LARGEST
+    (-LARGEST..=LARGEST).contains(&n)
 }
 
 // Whether a number is neither below zero nor too large.
 fn is_counted(n: i64) -> bool
     ensures { result ≡ counted n }
 {
-    0 <= n && n <= LARGEST
+    (0..=LARGEST).contains(&n)
 }
 
-// The numbers that every box has.
-fn is_good_frame(rec: &BoxRecord) -> bool
-    ensures { result ≡ good_frame rec.now }
-{
-    is_sized(rec.x)
-        && is_counted(rec.y)
-        && is_sized(rec.width)
-        && is_counted(rec.height)
-        && is_counted(rec.depth)
-}
-
-// The store, the place and the length, which only a word has.
-fn is_good_part(rec: &BoxRecord) -> bool
-    ensures { result ≡ good_part rec.now }
-{
-    match rec.store {
-        Store::Preamble | Store::Lines => is_counted(rec.place) && is_counted(rec.len),
-        Store::Unlisted(_) => false,
-    }
-}
-
-// Whether a box may be written; nothing is asked of a rule's store, place and length.
-fn is_good_box(rec: &BoxRecord) -> bool
-    ensures { result ≡ good_box rec.now }
-{
-    match rec.kind {
-        Kind::Word => is_good_frame(rec) && is_good_part(rec),
-        Kind::Rule => is_good_frame(rec),
-        Kind::Unlisted(_) => false,
-    }
-}
-
-fn are_good_boxes(boxes: &[BoxRecord]) -> bool
-    ensures { result ≡ good_boxes boxes.now }
-{
-    for rec in boxes {
-        if !is_good_box(rec) {
-            return false;
+// No `From`, which is public: it would promise a number for what is never written.
+impl Kind {
+    // The number that a kind goes out as; an unlisted one never does.
+    fn number(self) -> u64
+        ensures { result ≡ kind_number self }
+    {
+        match self {
+            Kind::Word => 1,
+            Kind::Rule => 2,
+            Kind::Unlisted(_) => 0,
         }
     }
-    true
 }
 
-// The numbers before the boxes.
-fn is_good_head(width: i64, height: i64, count: usize) -> bool
-    ensures { result ≡ good_head width height count }
-{
-    is_counted(width) && is_counted(height) && count <= LARGEST as usize
-}
-
-// Whether a list may be written.
-pub(crate) fn is_writable(list: BoxList<'_>) -> bool
-    ensures { result ≡ writable list.entry.width list.entry.height list.entry.boxes.now }
-{
-    is_good_head(list.width, list.height, list.boxes.len()) && are_good_boxes(list.boxes)
-}
-
-// The number that a kind goes out as; an unlisted one never does.
-fn kind_number(kind: Kind) -> u64
-    ensures { result ≡ kind_number kind }
-{
-    match kind {
-        Kind::Word => 1,
-        Kind::Rule => 2,
-        Kind::Unlisted(_) => 0,
+impl Store {
+    // The number that a store goes out as; an unlisted one never does.
+    fn number(self) -> u64
+        ensures { result ≡ store_number self }
+    {
+        match self {
+            Store::Preamble => 0,
+            Store::Lines => 1,
+            Store::Unlisted(_) => 0,
+        }
     }
 }
 
-// The number that a store goes out as; an unlisted one never does.
-fn store_number(store: Store) -> u64
-    ensures { result ≡ store_number store }
-{
-    match store {
-        Store::Preamble => 0,
-        Store::Lines => 1,
-        Store::Unlisted(_) => 0,
+impl BoxRecord {
+    // Whether the numbers that every box has may be written.
+    fn is_good_frame(&self) -> bool
+        ensures { result ≡ good_frame self.now }
+    {
+        is_sized(self.x)
+            && is_counted(self.y)
+            && is_sized(self.width)
+            && is_counted(self.height)
+            && is_counted(self.depth)
+    }
+
+    // Whether the store, the place and the length may, which only a word has.
+    fn is_good_part(&self) -> bool
+        ensures { result ≡ good_part self.now }
+    {
+        match self.store {
+            Store::Preamble | Store::Lines => is_counted(self.place) && is_counted(self.len),
+            Store::Unlisted(_) => false,
+        }
+    }
+
+    // Whether a box may be written; nothing is asked of a rule's store, place and length.
+    #[tactic(auto, unfolding(crate::specs::Writing::good_box))]
+    fn is_good(&self) -> bool
+        ensures { result ≡ good_box self.now }
+    {
+        match self.kind {
+            Kind::Word => self.is_good_frame() && self.is_good_part(),
+            Kind::Rule => self.is_good_frame(),
+            Kind::Unlisted(_) => false,
+        }
+    }
+
+    // The numbers that every box has.
+    fn frame(&self) -> [u64; 6]
+        ensures { result ≡ frame_numbers self.now }
+    {
+        [
+            self.kind.number(),
+            fold_sign(self.x),
+            unsigned(self.y),
+            fold_sign(self.width),
+            unsigned(self.height),
+            unsigned(self.depth),
+        ]
+    }
+
+    // The numbers that a word has besides.
+    fn part(&self) -> [u64; 3]
+        ensures { result ≡ part_numbers self.now }
+    {
+        [
+            self.store.number(),
+            unsigned(self.place),
+            unsigned(self.len),
+        ]
+    }
+
+    // How many bytes a box takes.
+    fn byte_count(&self) -> usize
+        ensures total { result ≡ length (bytes_of_box self.now) }
+        ensures within { result ≤ 180 }
+    {
+        let frame = count_all(&self.frame());
+        if let Kind::Word = self.kind {
+            frame + count_all(&self.part())
+        } else {
+            frame
+        }
+    }
+
+    // The bytes of a box.
+    fn put(&self, out: &mut Output<'_>)
+        requires { HasRoom out.old (bytes_of_box self.now) }
+        ensures { Added out.old out.new (bytes_of_box self.now) }
+    {
+        out.put_all(&self.frame());
+        if let Kind::Word = self.kind {
+            out.put_all(&self.part());
+        }
     }
 }
 
-// A number from zero up as it is; one below zero never goes out so.
-fn unsigned(n: i64) -> u64
-    ensures { result ≡ natural n }
+// Whether each box may be written.
+fn are_good_boxes(boxes: &[BoxRecord]) -> bool
+    ensures { result ≡ list_all good_box boxes.now }
 {
-    if n >= 0 { n as u64 } else { 0 }
-}
-
-// The numbers that every box has.
-fn frame_of(rec: &BoxRecord) -> [u64; 6]
-    ensures { result ≡ frame_numbers rec.now }
-{
-    [
-        kind_number(rec.kind),
-        fold_sign(rec.x),
-        unsigned(rec.y),
-        fold_sign(rec.width),
-        unsigned(rec.height),
-        unsigned(rec.depth),
-    ]
-}
-
-// The numbers that a word has besides.
-fn part_of(rec: &BoxRecord) -> [u64; 3]
-    ensures { result ≡ part_numbers rec.now }
-{
-    [
-        store_number(rec.store),
-        unsigned(rec.place),
-        unsigned(rec.len),
-    ]
-}
-
-// The numbers before the boxes.
-fn head_of(list: BoxList<'_>) -> [u64; 3]
-    ensures { result ≡ head_numbers list.entry.width list.entry.height (length list.entry.boxes.now) }
-{
-    [
-        unsigned(list.width),
-        unsigned(list.height),
-        list.boxes.len() as u64,
-    ]
-}
-
-// How many bytes a box takes.
-fn box_len(rec: &BoxRecord) -> usize
-    ensures total { result ≡ length (bytes_of_box rec.now) }
-    ensures within { result ≤ 180 }
-{
-    let frame = count_all(&frame_of(rec));
-    match rec.kind {
-        Kind::Word => frame + count_all(&part_of(rec)),
-        Kind::Rule | Kind::Unlisted(_) => frame,
-    }
-}
-
-// The bytes of a box from a place on, and the place behind them.
-fn put_box(rec: &BoxRecord, out: &mut [u8], start: usize) -> usize
-    requires { start + length (bytes_of_box rec.now) ≤ length out.old }
-    ensures next { result ≡ start + length (bytes_of_box rec.now) }
-    ensures bytes { out.new ≡ over out.old start (bytes_of_box rec.now) }
-{
-    let place = put_all(&frame_of(rec), out, start);
-    match rec.kind {
-        Kind::Word => put_all(&part_of(rec), out, place),
-        Kind::Rule | Kind::Unlisted(_) => place,
-    }
+    boxes.iter().all(BoxRecord::is_good)
 }
 
 // How many bytes the boxes take.
-fn boxes_len(boxes: &[BoxRecord]) -> usize
+fn count_boxes(boxes: &[BoxRecord]) -> usize
     requires { length boxes.now ≤ 2 ^ 40 }
     ensures total { result ≡ length (flat_map bytes_of_box boxes.now) }
     ensures within { result ≤ 180 * 2 ^ 40 }
 {
-    let mut total = 0;
-    for rec in boxes {
-        total += box_len(rec);
-    }
-    total
+    boxes.iter().map(BoxRecord::byte_count).sum()
 }
 
-// How many bytes a list takes.
-pub(crate) fn list_len(list: BoxList<'_>) -> usize
-    requires { length list.boxes.now ≤ 2 ^ 40 }
-    ensures { result ≡ length (bytes_of list.entry.width list.entry.height list.entry.boxes.now) }
+// The bytes of the boxes, one box behind the other.
+fn put_boxes(boxes: &[BoxRecord], out: &mut Output<'_>)
+    requires { HasRoom out.old (flat_map bytes_of_box boxes.now) }
+    ensures { Added out.old out.new (flat_map bytes_of_box boxes.now) }
 {
-    count_all(&head_of(list)) + boxes_len(list.boxes)
-}
-
-// The bytes of the boxes from a place on.
-fn put_boxes(boxes: &[BoxRecord], out: &mut [u8], start: usize)
-    requires { start + length (flat_map bytes_of_box boxes.now) ≤ length out.old }
-    ensures { out.new ≡ over out.old start (flat_map bytes_of_box boxes.now) }
-{
-    let mut place = start;
     for rec in boxes {
-        place = put_box(rec, out, place);
+        rec.put(out);
     }
 }
 
-// The bytes of a list from the front on.
-pub(crate) fn put_list(list: BoxList<'_>, out: &mut [u8])
-    requires { length (bytes_of list.width list.height list.boxes.now) ≤ length out.old }
-    ensures { out.new ≡ over out.old 0 (bytes_of list.entry.width list.entry.height list.entry.boxes.now) }
-{
-    let place = put_all(&head_of(list), out, 0);
-    put_boxes(list.boxes, out, place);
+impl BoxList<'_> {
+    // Whether the numbers before the boxes may be written.
+    fn is_good_head(self) -> bool
+        ensures { result ≡ good_head self.entry.width self.entry.height (length self.entry.boxes.now) }
+    {
+        is_counted(self.width) && is_counted(self.height) && self.boxes.len() <= LARGEST as usize
+    }
+
+    // Whether a list may be written.
+    #[tactic(auto, unfolding(crate::specs::Writing::writable))]
+    pub(crate) fn is_writable(self) -> bool
+        ensures { result ≡ of_list writable self.entry }
+    {
+        self.is_good_head() && are_good_boxes(self.boxes)
+    }
+
+    // The numbers before the boxes.
+    fn head(self) -> [u64; 3]
+        ensures { result ≡ head_numbers self.entry.width self.entry.height (length self.entry.boxes.now) }
+    {
+        [
+            unsigned(self.width),
+            unsigned(self.height),
+            self.boxes.len() as u64,
+        ]
+    }
+
+    // How many bytes a list takes.
+    #[tactic(auto, unfolding(crate::specs::Format::bytes_of))]
+    pub(crate) fn byte_count(self) -> usize
+        requires { length self.boxes.now ≤ 2 ^ 40 }
+        ensures { result ≡ length (of_list bytes_of self.entry) }
+    {
+        count_all(&self.head()) + count_boxes(self.boxes)
+    }
+
+    // The bytes of a list from the front on.
+    pub(crate) fn put(self, out: &mut [u8])
+        requires { length (of_list bytes_of self) ≤ length out.old }
+        ensures { out.new ≡ over out.old 0 (of_list bytes_of self.entry) }
+    {
+        let mut output = Output::new(out);
+        output.put_all(&self.head());
+        put_boxes(self.boxes, &mut output);
+    }
 }

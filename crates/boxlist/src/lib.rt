@@ -3,6 +3,7 @@
 
 ghost use Rattle.std.specs.Prelude.{◌≡◌, length};
 ghost use Rattle.boxlist.specs.Spellings.{GroupsShortest, OthersLonger, ShortestEndsWell, SpellingShowsEnd, GroupsApart, SixGroups, FoldsUp, FoldsBelow, FoldsApart, FoldsOnto};
+ghost use Rattle.boxlist.specs.Format.{of_list};
 ghost use Rattle.boxlist.specs.Writing.{write_answer, written_over};
 ghost use Rattle.boxlist.specs.Lists.{Wrote, WritableDecided, BytesTellList, ListShowsEnd, UnwrittenIdle, SixEach};
 ghost use Rattle.boxlist.specs.Parts.{named_part, fetch_answer, held, Fetched};
@@ -13,7 +14,7 @@ mod numbers;
 
 use faults::{Cause, Fault};
 
-// What a box draws.
+// What a box draws. A host's record may hold any number here, so that one that is neither has a variant, and is refused.
 #[derive(Clone, Copy, PartialEq, Eq, Debug)]
 pub enum Kind {
     // a word, number 1
@@ -24,7 +25,7 @@ pub enum Kind {
     Unlisted(i64),
 }
 
-// The text that holds a word's bytes.
+// The text that holds a word's bytes; one that is neither is refused, as a kind is.
 #[derive(Clone, Copy, PartialEq, Eq, Debug)]
 pub enum Store {
     // the preamble text, number 0
@@ -36,7 +37,7 @@ pub enum Store {
 }
 
 // A box: its left edge and its baseline (of a \hrule its lower edge), its extents, and the part of a text that a word stands in.
-// Of a \hrule the store, the place and the length mean nothing.
+// Of a \hrule the store, the place and the length mean nothing and may be anything: a narrower type would ask more of hosts.
 #[derive(Clone, Copy, PartialEq, Eq, Debug)]
 pub struct BoxRecord {
     pub kind: Kind,
@@ -60,39 +61,35 @@ pub struct BoxList<'a> {
 
 // The bytes of a list from the front of `out` on, and how many they are. A refusal writes nothing.
 pub fn write(list: BoxList<'_>, out: &mut [u8]) -> Result<usize, Fault>
-    ensures answer { result ≡ write_answer list.entry.width list.entry.height list.entry.boxes.now (length out.old) }
-    ensures bytes { out.new ≡ written_over list.entry.width list.entry.height list.entry.boxes.now out.old }
-    ensures law { Wrote list.entry.width list.entry.height list.entry.boxes.now out.old out.new result }
+    ensures answer { result ≡ of_list write_answer list.entry (length out.old) }
+    ensures bytes { out.new ≡ of_list written_over list.entry out.old }
+    ensures law { of_list Wrote list.entry out.old out.new result }
 {
-    if !boxes::is_writable(list) {
+    if !list.is_writable() {
         return Err(Cause::BadBox.at(0));
     }
-    let need = boxes::list_len(list);
+    let need = list.byte_count();
     if out.len() < need {
         return Err(Cause::TooLittleRoom.at(0));
     }
-    boxes::put_list(list, out);
+    list.put(out);
     Ok(need)
 }
 
-// The part of one of the two texts that a word's box names.
-fn named_part<'a>(rec: &BoxRecord, preamble: &'a [u8], lines: &'a [u8]) -> Option<&'a [u8]>
-    ensures { option_map (λ x. x.now) result ≡ named_part rec.now preamble.now lines.now }
-{
-    let text = match (rec.kind, rec.store) {
-        (Kind::Word, Store::Preamble) => preamble,
-        (Kind::Word, Store::Lines) => lines,
-        _ => return None,
-    };
-    if rec.place < 0 || rec.len < 0 {
-        return None;
+impl BoxRecord {
+    // The part of one of the two texts that a word's box names.
+    fn named_part<'a>(&self, preamble: &'a [u8], lines: &'a [u8]) -> Option<&'a [u8]>
+        ensures { option_map (λ x. x.now) result ≡ named_part self.now preamble.now lines.now }
+    {
+        let text = match (self.kind, self.store) {
+            (Kind::Word, Store::Preamble) => preamble,
+            (Kind::Word, Store::Lines) => lines,
+            _ => return None,
+        };
+        let place = usize::try_from(self.place).ok()?;
+        let len = usize::try_from(self.len).ok()?;
+        text.get(place..)?.get(..len)
     }
-    let place = rec.place as usize;
-    let len = rec.len as usize;
-    if place > text.len() || len > text.len() - place {
-        return None;
-    }
-    Some(&text[place..place + len])
 }
 
 // The bytes that a word's box names, a part of one of the two texts.
@@ -100,7 +97,7 @@ pub fn fetch<'a>(rec: &BoxRecord, preamble: &'a [u8], lines: &'a [u8]) -> Result
     ensures answer { held result ≡ fetch_answer rec.now preamble.now lines.now }
     ensures law { Fetched rec.now preamble.now lines.now (held result) }
 {
-    named_part(rec, preamble, lines).ok_or(Cause::BadBox.at(0))
+    rec.named_part(preamble, lines).ok_or(Cause::BadBox.at(0))
 }
 
 // Every number has one shortest spelling, the one that is written, and every spelling shows where it ends.

@@ -1,8 +1,7 @@
 use boxlist::{BoxList, BoxRecord, Kind, Store, fetch, write};
 use extent::{Plain, Twin};
 use faults::{Cause, Fault};
-use measure::{Measurer, Mono, TwinMeasurer, measured};
-use std::process::Abort;
+use measure::{Mono, TwinMeasurer, measured};
 use std::test::Fail;
 
 const EMPTY: BoxRecord = BoxRecord {
@@ -55,78 +54,65 @@ fn list_bytes(rt: HostRuntime) {
         0x14, 0x07, 0x02, 0x01, 0x02, 0x01, 0x01, 0x00, 0x10, 0x14, 0x07, 0x02, 0x01, 0x03, 0x01,
         0xee, 0xee, 0xee, 0xee, 0xee, 0xee, 0xee, 0xee, 0xee, 0xee,
     ];
-    assert!(rt; out == expected);
-}
-
-fn refused(rt: &impl Abort, boxes: &[BoxRecord], room: usize, cause: Cause) -> Result<(), Fail> {
-    let mut out = [0xee; 64];
-    if room > 64 {
-        assert!(rt; false);
-        return Ok(());
-    }
-    assert_eq!(rt;
-        write(
-            BoxList {
-                width: 0,
-                height: 0,
-                boxes,
-            },
-            &mut out[0..room],
-        ),
-        Err(cause.at(0))
-    );
-    assert!(rt; out == [0xee; 64]);
-    Ok(())
+    assert_eq!(rt; out, expected);
 }
 
 #[test]
-fn list_refusals(rt: HostRuntime) -> Result<(), Fail> {
-    refused(
-        &rt,
-        &[BoxRecord {
-            kind: Kind::Unlisted(3),
-            ..EMPTY
-        }],
-        64,
-        Cause::BadBox,
-    )?;
-    refused(&rt, &[BoxRecord { y: -1, ..EMPTY }], 64, Cause::BadBox)?;
-    refused(
-        &rt,
-        &[BoxRecord {
-            x: 1_099_511_627_777,
-            ..EMPTY
-        }],
-        0,
-        Cause::BadBox,
-    )?;
-    refused(
-        &rt,
-        &[BoxRecord {
-            kind: Kind::Word,
-            store: Store::Unlisted(2),
-            ..EMPTY
-        }],
-        64,
-        Cause::BadBox,
-    )?;
-    refused(
-        &rt,
-        &[BoxRecord {
-            kind: Kind::Word,
-            len: -1,
-            ..EMPTY
-        }],
-        64,
-        Cause::BadBox,
-    )?;
-    refused(
-        &rt,
-        &[BoxRecord { len: -1, ..EMPTY }],
-        8,
-        Cause::TooLittleRoom,
-    )?;
-    refused(&rt, &[EMPTY], 8, Cause::TooLittleRoom)
+fn list_refusals(rt: HostRuntime) {
+    let cases = [
+        (
+            BoxRecord {
+                kind: Kind::Unlisted(3),
+                ..EMPTY
+            },
+            64,
+            Cause::BadBox,
+        ),
+        (BoxRecord { y: -1, ..EMPTY }, 64, Cause::BadBox),
+        (
+            BoxRecord {
+                x: 1_099_511_627_777,
+                ..EMPTY
+            },
+            0,
+            Cause::BadBox,
+        ),
+        (
+            BoxRecord {
+                kind: Kind::Word,
+                store: Store::Unlisted(2),
+                ..EMPTY
+            },
+            64,
+            Cause::BadBox,
+        ),
+        (
+            BoxRecord {
+                kind: Kind::Word,
+                len: -1,
+                ..EMPTY
+            },
+            64,
+            Cause::BadBox,
+        ),
+        (BoxRecord { len: -1, ..EMPTY }, 8, Cause::TooLittleRoom),
+        (EMPTY, 8, Cause::TooLittleRoom),
+    ];
+    for (record, room, cause) in cases {
+        let list = BoxList {
+            width: 0,
+            height: 0,
+            boxes: &[record],
+        };
+        let mut out = [0xee; 64];
+        assert!(rt; room <= 64);
+        assert_eq!(rt;
+            write(list, &mut out[..room]),
+            Err(cause.at(0)),
+            "{record:?}"
+        );
+        assert_eq!(rt; out, [0xee; 64], "{record:?}");
+    }
 }
 
 #[test]
@@ -154,64 +140,43 @@ fn number_bytes(rt: HostRuntime) {
     let expected = [
         0, 0, 1, 2, 0xff, 0xff, 0xff, 0xff, 0xff, 0x3f, 0x80, 0x01, 0x01, 0x80, 0x80, 0x01, 0x7f, 0,
     ];
-    assert!(rt; out == expected);
-}
-
-fn fetches(rt: &impl Abort, record: BoxRecord, bytes: &[u8]) -> Result<(), Fail> {
-    match fetch(&record, b"preamble", b"lines") {
-        Ok(part) => {
-            assert!(rt; part == bytes);
-            Ok(())
-        },
-        Err(_) => {
-            assert!(rt; false);
-            Ok(())
-        },
-    }
-}
-
-fn fetches_nothing(rt: &impl Abort, record: BoxRecord) -> Result<(), Fail> {
-    match fetch(&record, b"preamble", b"lines") {
-        Ok(_) => {
-            assert!(rt; false);
-            Ok(())
-        },
-        Err(fault) => {
-            assert_eq!(rt; fault, Cause::BadBox.at(0));
-            Ok(())
-        },
-    }
+    assert_eq!(rt; out, expected);
 }
 
 #[test]
-fn fetched_parts(rt: HostRuntime) -> Result<(), Fail> {
-    fetches(&rt, word(0, 0, 0, 1, 3), b"ine")?;
-    fetches(&rt, word(0, 0, 0, 5, 0), b"")?;
-    fetches(
-        &rt,
-        BoxRecord {
-            store: Store::Preamble,
-            ..word(0, 0, 0, 3, 5)
-        },
-        b"amble",
-    )?;
-    fetches_nothing(&rt, word(0, 0, 0, 5, 1))?;
-    fetches_nothing(&rt, word(0, 0, 0, -1, 1))?;
-    fetches_nothing(&rt, word(0, 0, 0, 1, -1))?;
-    fetches_nothing(
-        &rt,
-        BoxRecord {
-            kind: Kind::Rule,
-            ..word(0, 0, 0, 0, 1)
-        },
-    )?;
-    fetches_nothing(
-        &rt,
-        BoxRecord {
-            store: Store::Unlisted(2),
-            ..word(0, 0, 0, 0, 1)
-        },
-    )
+fn fetched_parts(rt: HostRuntime) {
+    let bad = Err(Cause::BadBox.at(0));
+    let cases: [(BoxRecord, Result<&[u8], Fault>); 8] = [
+        (word(0, 0, 0, 1, 3), Ok(b"ine")),
+        (word(0, 0, 0, 5, 0), Ok(b"")),
+        (
+            BoxRecord {
+                store: Store::Preamble,
+                ..word(0, 0, 0, 3, 5)
+            },
+            Ok(b"amble"),
+        ),
+        (word(0, 0, 0, 5, 1), bad),
+        (word(0, 0, 0, -1, 1), bad),
+        (word(0, 0, 0, 1, -1), bad),
+        (
+            BoxRecord {
+                kind: Kind::Rule,
+                ..word(0, 0, 0, 0, 1)
+            },
+            bad,
+        ),
+        (
+            BoxRecord {
+                store: Store::Unlisted(2),
+                ..word(0, 0, 0, 0, 1)
+            },
+            bad,
+        ),
+    ];
+    for (record, part) in cases {
+        assert_eq!(rt; fetch(&record, b"preamble", b"lines"), part, "{record:?}");
+    }
 }
 
 fn mono(pitch: i64, last: i64) -> Result<Mono, Fault> {
@@ -221,59 +186,37 @@ fn mono(pitch: i64, last: i64) -> Result<Mono, Fault> {
 #[test]
 fn measurers(rt: HostRuntime) -> Result<(), Fail> {
     let strip = mono(10, 126)?;
-    match measured(&strip, b"ab~") {
-        Ok(metrics) => assert!(rt;
-            metrics.width == Plain { strip: 30 } && metrics.depth == Plain { strip: 2 }
-        ),
-        Err(_) => assert!(rt; false),
-    }
+    let metrics = measured(&strip, b"ab~")?;
+    assert_eq!(rt; metrics.width, Plain { strip: 30 });
+    assert_eq!(rt; metrics.depth, Plain { strip: 2 });
     let twin = TwinMeasurer {
         strip,
         window: mono(4, 97)?,
     };
-    match measured(&twin, b"aa") {
-        Ok(metrics) => assert!(rt;
-            metrics.width
-                == Twin {
-                    strip: 20,
-                    window: 8,
-                }
-        ),
-        Err(_) => assert!(rt; false),
-    }
-    match measured(&twin, b"aab") {
-        Ok(_) => assert!(rt; false),
-        Err(fault) => assert_eq!(rt; fault, Cause::NoCharacter.at(2)),
-    }
-    match mono(4_194_305, 126) {
-        Ok(_) => {
-            assert!(rt; false);
-            Ok(())
-        },
-        Err(fault) => {
-            assert_eq!(rt; fault, Cause::MeasurerRange.at(0));
-            Ok(())
-        },
-    }
-}
-
-fn unmeasured(rt: &impl Abort, word: &[u8], fault: Fault) -> Result<(), Fail> {
-    match measured(&mono(10, 96)?, word) {
-        Ok(_) => {
-            assert!(rt; false);
-            Ok(())
-        },
-        Err(f) => {
-            assert_eq!(rt; f, fault);
-            Ok(())
-        },
-    }
+    let metrics = measured(&twin, b"aa")?;
+    assert_eq!(rt;
+        metrics.width,
+        Twin {
+            strip: 20,
+            window: 8,
+        }
+    );
+    assert_eq!(rt; measured(&twin, b"aab"), Err(Cause::NoCharacter.at(2)));
+    assert_eq!(rt; mono(4_194_305, 126), Err(Cause::MeasurerRange.at(0)));
+    Ok(())
 }
 
 #[test]
 fn measurer_faults(rt: HostRuntime) -> Result<(), Fail> {
-    unmeasured(&rt, b"", Cause::WordLength.at(0))?;
-    unmeasured(&rt, &[b'A'; 256], Cause::WordLength.at(0))?;
-    unmeasured(&rt, b"A B", Cause::BadByte.at(1))?;
-    unmeasured(&rt, b"AaB", Cause::NoCharacter.at(1))
+    let strip = mono(10, 96)?;
+    let cases: [(&[u8], Fault); 4] = [
+        (b"", Cause::WordLength.at(0)),
+        (&[b'A'; 256], Cause::WordLength.at(0)),
+        (b"A B", Cause::BadByte.at(1)),
+        (b"AaB", Cause::NoCharacter.at(1)),
+    ];
+    for (word, fault) in cases {
+        assert_eq!(rt; measured(&strip, word), Err(fault), "{word:?}");
+    }
+    Ok(())
 }

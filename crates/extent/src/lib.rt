@@ -53,6 +53,8 @@ pub trait Extent: Copy {
     ghost upward: { (k : ℕ) (z : ℤ) → k < count → pos 0 ≤ℤ z → pos 0 ≤ℤ entered k z };
 }
 
+// Plain and twin are two types, not one over `[i64; N]`: only N from 1 to 4 meets `few`, and hosts name a strip and a window.
+
 // One side, the strip. Lengths enter unaltered.
 #[derive(Clone, Copy, PartialEq, Eq, Debug)]
 pub struct Plain {
@@ -105,7 +107,7 @@ impl Extent for Plain {
     }
 
     fn number(self, side: usize) -> Option<i64> {
-        if side < 1 { Some(self.strip) } else { None }
+        (side < 1).then_some(self.strip)
     }
 }
 

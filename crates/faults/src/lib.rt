@@ -66,31 +66,6 @@ pub struct Fault {
 }
 
 impl Cause {
-    // The number that a cause goes by.
-    pub fn number(self) -> u32
-        ensures { result ≡ number_of self }
-    {
-        match self {
-            Cause::BadByte => 1,
-            Cause::UnknownControl => 2,
-            Cause::BadLength => 3,
-            Cause::Misplaced => 5,
-            Cause::TemplateMark => 6,
-            Cause::TooManyColumns => 7,
-            Cause::TextOver => 8,
-            Cause::WordLength => 9,
-            Cause::EntryTooWide => 10,
-            Cause::RowInHand => 21,
-            Cause::Full => 22,
-            Cause::CannotSet => 23,
-            Cause::NoSuchColumn | Cause::NoSuchSide => 24,
-            Cause::TooLittleRoom => 26,
-            Cause::OutOfRange | Cause::MeasurerRange => 27,
-            Cause::BadBox => 28,
-            Cause::NoCharacter => 41,
-        }
-    }
-
     // The layer that refuses for a cause.
     pub fn layer(self) -> Layer
         ensures { result ≡ layer_of self }
@@ -127,11 +102,43 @@ impl Cause {
     }
 }
 
-impl Layer {
-    pub fn number(self) -> u32
-        ensures { result ≡ layer_number self }
+// The number that a cause goes by.
+impl From<Cause> for u32 {
+    ghost from_gives = { λ cause n. n ≡ number_of cause };
+
+    fn from(cause: Cause) -> u32
+        ensures { result ≡ number_of cause }
     {
-        match self {
+        match cause {
+            Cause::BadByte => 1,
+            Cause::UnknownControl => 2,
+            Cause::BadLength => 3,
+            Cause::Misplaced => 5,
+            Cause::TemplateMark => 6,
+            Cause::TooManyColumns => 7,
+            Cause::TextOver => 8,
+            Cause::WordLength => 9,
+            Cause::EntryTooWide => 10,
+            Cause::RowInHand => 21,
+            Cause::Full => 22,
+            Cause::CannotSet => 23,
+            Cause::NoSuchColumn | Cause::NoSuchSide => 24,
+            Cause::TooLittleRoom => 26,
+            Cause::OutOfRange | Cause::MeasurerRange => 27,
+            Cause::BadBox => 28,
+            Cause::NoCharacter => 41,
+        }
+    }
+}
+
+// The number that a layer goes by.
+impl From<Layer> for u32 {
+    ghost from_gives = { λ layer n. n ≡ layer_number layer };
+
+    fn from(layer: Layer) -> u32
+        ensures { result ≡ layer_number layer }
+    {
+        match layer {
             Layer::Reader => 1,
             Layer::Alignment => 2,
             Layer::Packer => 3,
@@ -144,9 +151,9 @@ impl fmt::Display for Fault {
     ghost output = { λ f. Some (text_of f) };
 
     fn fmt<W: fmt::Write>(&self, f: &mut fmt::Formatter<W>) -> fmt::Result {
-        let cause = self.cause.number();
+        let cause = u32::from(self.cause);
         let place = self.place;
-        let layer = self.layer.number();
+        let layer = u32::from(self.layer);
         write!(f, "fault {cause} place {place} layer {layer}")
     }
 }

@@ -1,16 +1,16 @@
-use Rattle.std.proofs.Common.{◌≡◌, ℕ, zero, suc, ◌+◌, ◌<◌, Bool, true, false, cond, List, [], ◌∷◌, ◌++◌, ℤ, pos, ◌+ℤ◌, refl, subst, ⊎_elim, add-one, arith}
+use Rattle.std.proofs.Common.{◌≡◌, ℕ, zero, suc, ◌<◌, Bool, true, false, cond, List, [], ◌∷◌, ◌++◌, ℤ, pos, ◌+ℤ◌, refl, subst, ⊎_elim, arith, length, get_or, sym}
+use Rattle.std.specs.Bool.{MatchBool}
+use Rattle.std.specs.List.{HoldsAt, AllWithin, range_with_len}
+use Rattle.std.proofs.lemmas.List.FromFn.{length-range_with_len, get_or-range_with_len}
 use Rattle.std.proofs.lemmas.Int.{ints}
 use Rattle.std.proofs.lemmas.Bool.{cases_lt}
 use Rattle.ledger.specs.Ledger.{Item}
 use Rattle.ledger.specs.Naturals.{beyond, out_z, natural}
 
-pub beyond-none : (f : ℕ → ℤ) → beyond 0 f ≡ false
+pub beyond-nowhere : (n : ℕ) (f : ℕ → ℤ) → ((k : ℕ) → k < n → out_z (f k) ≡ false) → beyond n f ≡ false
 unfolding beyond
-beyond-none f = refl
-
-pub beyond-more : (n : ℕ) (f : ℕ → ℤ) → out_z (f n) ≡ false → beyond n f ≡ false → beyond (n + 1) f ≡ false
-unfolding beyond
-beyond-more n f e h = rw (add-one n) (rw (e, h))
+beyond-nowhere zero f h = refl
+beyond-nowhere (suc n) f h = let here = h n (omega arith) in let below = beyond-nowhere n f (λ k lt. h k (omega arith)) in rw (here, below)
 
 pub beyond-at : (n k : ℕ) (f : ℕ → ℤ) → k < n → out_z (f k) ≡ true → beyond n f ≡ true
 unfolding beyond
@@ -28,6 +28,22 @@ pub beyond-same : (n : ℕ) (f h : ℕ → ℤ) → ((k : ℕ) → k < n → f k
 unfolding beyond
 beyond-same zero f h e = refl
 beyond-same (suc n) f h e = let a = e n (omega arith) in let b = beyond-same n f h (λ k lt. e k (omega arith)) in rw (a, b)
+
+-- a search from side 0 up
+module _ (n : ℕ) (f : ℕ → ℤ) where
+  abbrev sides : List ℕ
+  sides = range_with_len 0 n
+
+  -- b says whether side k is out, if there is such a side
+  abbrev pub Judges : Bool → ℕ → Type 0
+  Judges b k = k < n → out_z (f k) ≡ b
+
+  at-side : (P : ℕ → Type 0) (k : ℕ) → k < n → P (get_or sides k 0) → P k
+  at-side P k lt p = let e : get_or sides k 0 ≡ k = omega (arith, get_or-range_with_len 0 n k 0 lt) in subst P e p
+
+  pub beyond-search : (r : Bool) → MatchBool r ((k : ℕ) × (k < length sides) × HoldsAt (Judges true) sides k) (AllWithin (Judges false) sides 0 (length sides)) → r ≡ beyond n f
+  beyond-search true h = let lt : h.0 < n = omega (arith, h.1, length-range_with_len 0 n) in sym (beyond-at n h.0 f lt (at-side (Judges true) h.0 lt (h.2 0) lt))
+  beyond-search false h = sym (beyond-nowhere n f (λ k lt. at-side (Judges false) k lt (h k 0 (omega arith) (omega (arith, length-range_with_len 0 n))) lt))
 
 -- not beyond on any side
 pub beyond-not : (n k : ℕ) (f : ℕ → ℤ) → k < n → beyond n f ≡ false → out_z (f k) ≡ false

@@ -1,5 +1,7 @@
+use lengths::gap::Gap;
+
 /// An item: a space, a word of a cell with its number of bytes, a word of the preamble text by place and length, a
-/// kern, a fill.
+/// kern, a fill. Words are no slices: the list that is drawn names them by place and length, and the records are lent.
 #[derive(Clone, Copy)]
 pub enum ItemRecord {
     Space,
@@ -22,6 +24,14 @@ pub struct Column {
 pub struct Owed<E> {
     pub u: E,
     pub v: E,
+}
+
+/// A column as it is read: its template, the natural widths of the template's parts, and the gap after it.
+#[derive(Clone, Copy)]
+pub struct ColumnRecord<E> {
+    pub template: Column,
+    pub widths: Owed<E>,
+    pub gap: Gap,
 }
 
 /// How much a table's memory holds.

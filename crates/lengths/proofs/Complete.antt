@@ -3,12 +3,11 @@ use Rattle.std.proofs.Common.{◌≡◌, ℕ, ◌+◌, ◌*◌, ◌^◌, ◌<◌
 use Rattle.std.specs.List.{prefix_len}
 use Rattle.std.proofs.lemmas.List.{take_at, drop_at, drop-drop}
 use Rattle.std.proofs.lemmas.Bool.{cases_Bool, and_from, and_cases, and_left, cond-true, cond-false, le-leb, both_ways}
-use Rattle.lengths.specs.declared.amount.Amount.{Amount}
 use Rattle.lengths.specs.declared.order.Order.{Order}
 use Rattle.lengths.specs.declared.order.Order.TheVariants.{Points, Fil, Fill, Filll}
 use Rattle.lengths.specs.Fractions.{Digits, Nearest, numeral, rounded}
 use Rattle.lengths.specs.Orders.{unit_text}
-use Rattle.lengths.specs.Amounts.{digit_byte, fraction_of, amount_of}
+use Rattle.lengths.specs.Amounts.{Amount, digit_byte, fraction_of, amount_of}
 use Rattle.lengths.specs.Dimens.{largest, swallowed, begins_with, measured, measure_of, dimen_of}
 use Rattle.lengths.specs.Spelling.{pointed, Longest, SpellsMeasure}
 use Rattle.lengths.proofs.Rounding.{nearest}
@@ -35,7 +34,7 @@ unit-stops Fil rest = refl
 unit-stops Fill rest = refl
 unit-stops Filll rest = refl
 
-unit-bare : (o : Order) (rest : List ℕ) → fraction_of (unit_text o ++ rest) ≡ Some (record { size = 0; len = 0 })
+unit-bare : (o : Order) (rest : List ℕ) → fraction_of (unit_text o ++ rest) ≡ Some (record { value = 0; len = 0 })
 unit-bare Points rest = refl
 unit-bare Fil rest = refl
 unit-bare Fill rest = refl
@@ -61,23 +60,23 @@ nearest-one ds r q h k =
     let over = between p a q r k.0 h.1 in
     omega arith
 
-fraction-read : (fs : List ℕ) (part : ℕ) (t : List ℕ) → prefix_len digit_byte t ≡ 0 → fraction_of t ≡ Some (record { size = 0; len = 0 }) → Digits fs → length fs ≤ 17 → Nearest fs part → fraction_of (pointed fs ++ t) ≡ Some (record { size = part; len = length (pointed fs) })
+fraction-read : (fs : List ℕ) (part : ℕ) (t : List ℕ) → prefix_len digit_byte t ≡ 0 → fraction_of t ≡ Some (record { value = 0; len = 0 }) → Digits fs → length fs ≤ 17 → Nearest fs part → fraction_of (pointed fs ++ t) ≡ Some (record { value = part; len = length (pointed fs) })
 fraction-read [] part t stop bare ds short near =
-    bare ∙ ap (λ (n : ℕ). Some (record { size = n; len = 0 })) (nearest-one [] 0 part (nearest []) near)
+    bare ∙ ap (λ (n : ℕ). Some (record { value = n; len = 0 })) (nearest-one [] 0 part (nearest []) near)
 fraction-read (f ∷ fs) part t stop bare ds short near =
     let run = run_is (f ∷ fs) t ds stop in
     let n = length (f ∷ fs) in
     let front : take n (f ∷ fs ++ t) ≡ f ∷ fs = take_at (f ∷ fs) t n refl in
     let value : part ≡ rounded (take n (f ∷ fs ++ t)) = nearest-one (f ∷ fs) part (rounded (f ∷ fs)) near (nearest (f ∷ fs)) ∙ sym (ap rounded front) in
     sym (part-is (f ∷ fs ++ t) n part (sym run) (λ z. absurd (omega arith)) short value)
-    ∙ ap (λ (k : ℕ). Some (record { size = part; len = k })) (add-one n)
+    ∙ ap (λ (k : ℕ). Some (record { value = part; len = k })) (add-one n)
 
 module _ (whole fraction : List ℕ) (part : ℕ) (o : Order) (rest : List ℕ) (wholes : Digits whole) (some : 1 ≤ length whole) (few : length whole ≤ 8) (fractions : Digits fraction) (short : length fraction ≤ 17) (near : Nearest fraction part) where
-  pub amount-read : amount_of (whole ++ (pointed fraction ++ (unit_text o ++ rest))) ≡ Some (record { size = numeral whole * 65536 + part; len = length whole + length (pointed fraction) })
+  pub amount-read : amount_of (whole ++ (pointed fraction ++ (unit_text o ++ rest))) ≡ Some (record { value = numeral whole * 65536 + part; len = length whole + length (pointed fraction) })
   amount-read =
       let t = pointed fraction ++ (unit_text o ++ rest) in
       let n = length whole in
-      let f : Amount = record { size = part; len = length (pointed fraction) } in
+      let f : Amount = record { value = part; len = length (pointed fraction) } in
       let front : take n (whole ++ t) ≡ whole = take_at whole t n refl in
       let back : drop n (whole ++ t) ≡ t = drop_at whole t n refl in
       sym (amount-is (whole ++ t) n (numeral whole) f
@@ -114,16 +113,16 @@ unit-read Fil rest longest =
     (cases_Bool (begins_with (108 ∷ []) rest))
 
 -- what is spelled is read, or refused for its size
-pub dimen-read : (s : List ℕ) (size : ℕ) (o : Order) (n : ℕ) → SpellsMeasure s size o n → dimen_of s ≡ cond (leb size largest) (Some (record { size = size; order = o; len = n })) None
+pub dimen-read : (s : List ℕ) (size : ℕ) (o : Order) (n : ℕ) → SpellsMeasure s size o n → dimen_of s ≡ cond (leb size largest) (Some (record { size = size; order = o; end = n })) None
 dimen-read s size o n h =
-    let a : Amount = record { size = size; len = length h.bytes } in
+    let a : Amount = record { value = size; len = length h.bytes } in
     let t = unit_text o ++ h.rest in
     let q = h.amount in
     let count : length h.bytes ≡ length q.whole + length (pointed q.fraction) = ap length q.spelled ∙ length-append q.whole (pointed q.fraction) in
     let text : s ≡ q.whole ++ (pointed q.fraction ++ t) = h.spelled ∙ ap (λ (x : List ℕ). x ++ t) q.spelled ∙ append_assoc q.whole (pointed q.fraction) t in
     let there : Some a ≡ amount_of s =
-    ap (λ (k : ℕ). Some (record { size = k; len = length h.bytes })) q.value
-    ∙ ap (λ (k : ℕ). Some (record { size = numeral q.whole * 65536 + q.part; len = k })) count
+    ap (λ (k : ℕ). Some (record { value = k; len = length h.bytes })) q.value
+    ∙ ap (λ (k : ℕ). Some (record { value = numeral q.whole * 65536 + q.part; len = k })) count
     ∙ sym (amount-read q.whole q.fraction q.part o h.rest q.wholes q.some q.few q.fractions q.short q.nearest)
     ∙ ap amount_of (sym text) in
     let behind : drop (length h.bytes) s ≡ t = ap (drop (length h.bytes)) h.spelled ∙ drop_at h.bytes t (length h.bytes) refl in
@@ -131,5 +130,5 @@ dimen-read s size o n h =
     let used = length h.bytes + length (unit_text o) in
     let over : drop used s ≡ h.rest =
     sym (drop-drop (length (unit_text o)) (length h.bytes) s) ∙ ap (drop (length (unit_text o))) behind ∙ drop_at (unit_text o) h.rest (length (unit_text o)) refl in
-    sym (dimen-sized s a there (record { order = o; len = length (unit_text o) }) unit)
-    ∙ ap (λ (k : ℕ). cond (leb size largest) (Some (record { size = size; order = o; len = k })) None) (ap (λ (x : List ℕ). used + swallowed x) over ∙ sym h.len)
+    sym (dimen-sized s a there (record { value = o; len = length (unit_text o) }) unit)
+    ∙ ap (λ (k : ℕ). cond (leb size largest) (Some (record { size = size; order = o; end = k })) None) (ap (λ (x : List ℕ). used + swallowed x) over ∙ sym h.len)

@@ -24,22 +24,22 @@ use Rattle.lengths.proofs.LengthLaws.{measures-first, begins-there}
 use Rattle.lengths.proofs.Glueing.{glue-refused, glue-plain, glue-plus}
 
 module _ (text : List ℕ) (at : ℕ) where
-  pub stretch-good : (size : ℕ) (o : Order) (n : ℕ) → SpellsMeasure (drop at text) size o n → size ≤ largest → stretch_at text at ≡ Ok (record { size = pos size; order = o; end = at + n })
+  pub stretch-good : (size : ℕ) (o : Order) (n : ℕ) → SpellsMeasure (drop at text) size o n → size ≤ largest → stretch_at text at ≡ Ok (record { size = size; order = o; end = at + n })
   unfolding stretch_at
   stretch-good size o n h small =
-      ap (stretch_placed text at) (dimen-read (drop at text) size o n h ∙ cond-true (leb size largest) (Some (record { size = size; order = o; len = n })) None (le-leb size largest small))
+      ap (stretch_placed text at) (dimen-read (drop at text) size o n h ∙ cond-true (leb size largest) (Some (record { size = size; order = o; end = n })) None (le-leb size largest small))
 
   pub stretch-large : (size : ℕ) (o : Order) (n : ℕ) → SpellsMeasure (drop at text) size o n → largest < size → stretch_at text at ≡ Err (fault_at BadLength at)
   unfolding stretch_at
   stretch-large size o n h big =
       let m = measures-first (drop at text) size o n h in
       let first = begins-there text at (m.0, inr (m.1, m.2)) in
-      ap (stretch_placed text at) (dimen-read (drop at text) size o n h ∙ cond-false (leb size largest) (Some (record { size = size; order = o; len = n })) None (lt-leb size largest big))
+      ap (stretch_placed text at) (dimen-read (drop at text) size o n h ∙ cond-false (leb size largest) (Some (record { size = size; order = o; end = n })) None (lt-leb size largest big))
       ∙ ap Err (missing-begun text at first.0 first.1)
 
   no_dimen : (r : Option Dimen) → dimen_of (drop at text) ≡ r → ((size : ℕ) (o : Order) (n : ℕ) → SpellsMeasure (drop at text) size o n → ⊥) → r ≡ None
   no_dimen None e none = refl
-  no_dimen (Some d) e none = absurd (none d.size d.order d.len (dimen-spelled (drop at text) d e).0)
+  no_dimen (Some d) e none = absurd (none d.size d.order d.end (dimen-spelled (drop at text) d e).0)
 
   pub stretch-missing : ((size : ℕ) (o : Order) (n : ℕ) → SpellsMeasure (drop at text) size o n → ⊥) → stretch_at text at ≡ Err (missing_at text at)
   unfolding stretch_at

@@ -1,24 +1,16 @@
 -- Glue at a place of a text, case by case. Assumes nothing.
-use Rattle.std.proofs.Common.{◌≡◌, ℕ, ◌+◌, ◌≤◌, true, false, List, drop, ℤ, pos, negsuc, ◌≤ℤ◌, Ok, Err, codes, sym, ap, ◌∙◌, arith}
-use lib.Signed.{le_z}
-use Rattle.std.proofs.lemmas.Bool.{cond-true, cond-false, and_from}
-use Rattle.std.proofs.lemmas.Int.{ints}
+use Rattle.std.proofs.Common.{◌≡◌, ℕ, ◌+◌, ◌≤◌, true, false, List, drop, pos, Ok, Err, codes, sym, ap, ◌∙◌}
+use Rattle.std.proofs.lemmas.Bool.{cond-true, cond-false}
 use Rattle.faults.specs.declared.Fault.{Fault}
 use Rattle.reader.specs.Tokens.{spaces_end}
 use Rattle.reader.proofs.Runs.{spaces-longest}
 use Rattle.lengths.specs.declared.order.Order.TheVariants.{Points}
 use Rattle.lengths.specs.declared.length.Length.{Length}
-use Rattle.lengths.specs.declared.glue.Stretch.{Stretch}
+use Rattle.lengths.specs.declared.dimen.Dimen.{Dimen}
 use Rattle.lengths.specs.Dimens.{begins_with}
 use Rattle.lengths.specs.Lengths.{length_at}
-use Rattle.lengths.specs.Gaps.{Parts, parts, natural_fits, stretch_fits}
+use Rattle.lengths.specs.Gaps.{Parts, parts}
 use Rattle.lengths.specs.Glues.{stretch_at, stretched, behind_length, glue_at}
-
-pub natural-fits : (z y : ℤ) → y ≡ z → negsuc 16777214 ≤ℤ z → z ≤ℤ pos 16777215 → natural_fits y ≡ true
-natural-fits z y e low high = ap natural_fits e ∙ and_from (le_z (negsuc 16777214) z) (le_z z (pos 16777215)) (grind (arith, ints)) (grind (arith, ints))
-
-pub stretch-fits : (z y : ℤ) → y ≡ z → pos 0 ≤ℤ z → z ≤ℤ pos 16777215 → stretch_fits y ≡ true
-stretch-fits z y e low high = ap stretch_fits e ∙ and_from (le_z (pos 0) z) (le_z z (pos 16777215)) (grind (arith, ints)) (grind (arith, ints))
 
 pub spaces-on : (text : List ℕ) (place : ℕ) → place ≤ spaces_end text place
 spaces-on text place = (spaces-longest text place).onto
@@ -49,5 +41,5 @@ module _ (text : List ℕ) (place : ℕ) where
       pub glue-short : (f : Fault) → Err f ≡ stretch_at text at → Err f ≡ glue_at text place
       glue-short f e = ap (stretched l.sp) e ∙ at-stretch
 
-      pub glue-stretched : (s : Stretch) (g : Parts) → g ≡ parts l.sp s.size s.order → Ok s ≡ stretch_at text at → Ok (record { gap = g; end = s.end }) ≡ glue_at text place
+      pub glue-stretched : (s : Dimen) (g : Parts) → g ≡ parts l.sp (pos s.size) s.order → Ok s ≡ stretch_at text at → Ok (record { gap = g; end = s.end }) ≡ glue_at text place
       glue-stretched s g e there' = ap (λ (x : Parts). Ok (record { gap = x; end = s.end })) e ∙ ap (stretched l.sp) there' ∙ at-stretch

@@ -38,8 +38,8 @@ points_read : (s : List ℕ) (size n : ℕ) → SpellsMeasure s size Points n �
 points_read s size n h =
     ap in_points (dimen-read s size Points n h)
     ∙ ⊎_elim
-    (λ e. ap in_points (cond-true (leb size largest) (Some (record { size = size; order = Points; len = n })) None e) ∙ sym (cond-true (leb size largest) (Some (record { sp = pos size; end = n })) None e))
-    (λ e. ap in_points (cond-false (leb size largest) (Some (record { size = size; order = Points; len = n })) None e) ∙ sym (cond-false (leb size largest) (Some (record { sp = pos size; end = n })) None e))
+    (λ e. ap in_points (cond-true (leb size largest) (Some (record { size = size; order = Points; end = n })) None e) ∙ sym (cond-true (leb size largest) (Some (record { sp = pos size; end = n })) None e))
+    (λ e. ap in_points (cond-false (leb size largest) (Some (record { size = size; order = Points; end = n })) None e) ∙ sym (cond-false (leb size largest) (Some (record { sp = pos size; end = n })) None e))
     (cases_Bool (leb size largest))
 
 turn_cond : (b : Bool) (l : Length) → turned (cond b (Some l) None) ≡ cond b (Some (record { sp = neg_ℤ l.sp; end = 1 + l.end })) None
@@ -60,15 +60,15 @@ length-read s false size n h =
 
 -- a length without a sign that was read
 module _ (s : List ℕ) (l : Length) where
-  by-order : (d : Dimen) (o : Order) → dimen_of s ≡ Some d → d.order ≡ o → by_order o d.size d.len ≡ Some l → (size : ℕ) × SpellsMeasure s size Points l.end × (size ≤ largest) × (l.sp ≡ pos size)
+  by-order : (d : Dimen) (o : Order) → dimen_of s ≡ Some d → d.order ≡ o → by_order o d.size d.end ≡ Some l → (size : ℕ) × SpellsMeasure s size Points l.end × (size ≤ largest) × (l.sp ≡ pos size)
   by-order d Fil e k h = absurd (none-some l h)
   by-order d Fill e k h = absurd (none-some l h)
   by-order d Filll e k h = absurd (none-some l h)
   by-order d Points e k h =
       let spelled = dimen-spelled s d e in
-      let got : Length = record { sp = pos d.size; end = d.len } in
+      let got : Length = record { sp = pos d.size; end = d.end } in
       subst (λ (x : Length). (size : ℕ) × SpellsMeasure s size Points x.end × (size ≤ largest) × (x.sp ≡ pos size)) (some_is got l h)
-      (d.size, subst (λ (o : Order). SpellsMeasure s d.size o d.len) k spelled.0, spelled.1, refl)
+      (d.size, subst (λ (o : Order). SpellsMeasure s d.size o d.end) k spelled.0, spelled.1, refl)
 
   by-dimen : (r : Option Dimen) → dimen_of s ≡ r → in_points r ≡ Some l → (size : ℕ) × SpellsMeasure s size Points l.end × (size ≤ largest) × (l.sp ≡ pos size)
   by-dimen None e h = absurd (none-some l h)

@@ -5,7 +5,6 @@ pub mod Fronts
 pub mod Units
 pub mod Signs
 pub mod Missing
-pub mod Places
 pub mod Glueing
 pub mod Complete
 pub mod Sound
@@ -13,3 +12,4 @@ pub mod Refusals
 pub mod LengthLaws
 pub mod GlueLaws
 pub mod Within
+pub mod Places

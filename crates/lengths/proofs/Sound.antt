@@ -4,15 +4,13 @@ use Rattle.std.specs.List.{prefix_len}
 use Rattle.std.proofs.lemmas.List.{length-take-le, drop-drop}
 use Rattle.std.proofs.lemmas.List.Sums.{prefix_len-le-length}
 use Rattle.std.proofs.lemmas.Bool.{cases_Bool, cond-true, cond-false, or_parts, eqb-true, eqb-false, ltb-false, leb-true, both_ways}
-use Rattle.lengths.specs.declared.amount.Amount.{Amount}
-use Rattle.lengths.specs.declared.dimen.Measure.{Measure}
 use Rattle.lengths.specs.declared.dimen.Dimen.{Dimen}
 use Rattle.lengths.specs.declared.order.Order.{Order}
 use Rattle.lengths.specs.declared.order.Order.TheVariants.{Points, Fil, Fill, Filll}
 use Rattle.lengths.specs.Fractions.{Digits, Nearest, numeral, rounded}
 use Rattle.lengths.specs.Orders.{unit_text}
-use Rattle.lengths.specs.Amounts.{digit_byte, behind_point, fraction_of, with_fraction, amount_of}
-use Rattle.lengths.specs.Dimens.{largest, swallowed, begins_with, measured, measure_of, with_measure, with_unit, dimen_of}
+use Rattle.lengths.specs.Amounts.{Amount, digit_byte, behind_point, fraction_of, with_fraction, amount_of}
+use Rattle.lengths.specs.Dimens.{Measure, largest, swallowed, begins_with, measured, measure_of, with_measure, with_unit, dimen_of}
 use Rattle.lengths.specs.Spelling.{pointed, SpellsAmount, Longest, SpellsMeasure}
 use Rattle.lengths.proofs.Rounding.{nearest}
 use Rattle.lengths.proofs.Runs.{run-digits}
@@ -31,11 +29,11 @@ record Part (t : List ℕ) (f : Amount) : Type 0 where
   pub short : length digits ≤ 17
   pub front : take f.len t ≡ pointed digits
   pub count : f.len ≡ length (pointed digits)
-  pub value : f.size ≡ rounded digits
+  pub value : f.value ≡ rounded digits
 
-no_part : (t : List ℕ) (f : Amount) → Some (record { size = 0; len = 0 }) ≡ Some f → Part t f
+no_part : (t : List ℕ) (f : Amount) → Some (record { value = 0; len = 0 }) ≡ Some f → Part t f
 no_part t f e =
-    let zero' : Amount = record { size = 0; len = 0 } in
+    let zero' : Amount = record { value = 0; len = 0 } in
     subst (Part t) (some_is zero' f e) (record { digits = []; each = tt; short = omega arith; front = refl; count = refl; value = refl })
 
 cases-lt_zero : (n : ℕ) → (n ≡ 0) ⊎ (0 < n)
@@ -49,7 +47,7 @@ point_part : (b : ℕ) (bs : List ℕ) (f : Amount) → b ≡ 46 → behind_poin
 point_part b bs f point e =
     let k = prefix_len digit_byte bs in
     let inside = prefix_len-le-length digit_byte bs in
-    let a : Amount = record { size = rounded (take k bs); len = k + 1 } in
+    let a : Amount = record { value = rounded (take k bs); len = k + 1 } in
     ⊎_elim
     (λ bad. absurd (none-some f (sym (cond-true (eqb k 0 || ltb 17 k) None (Some a) bad) ∙ e)))
     (λ good.
@@ -73,7 +71,7 @@ fraction-part : (t : List ℕ) (f : Amount) → fraction_of t ≡ Some f → Par
 fraction-part [] f e = no_part [] f e
 fraction-part (b ∷ bs) f e =
     let whole = behind_point bs (prefix_len digit_byte bs) in
-    let none : Option Amount = Some (record { size = 0; len = 0 }) in
+    let none : Option Amount = Some (record { value = 0; len = 0 }) in
     ⊎_elim
     (λ yes'. point_part b bs f (eqb-true b 46 yes') (sym (cond-true (eqb b 46) whole none yes') ∙ e))
     (λ no'. no_part (b ∷ bs) f (sym (cond-false (eqb b 46) whole none no') ∙ e))
@@ -81,20 +79,20 @@ fraction-part (b ∷ bs) f e =
 
 -- the bytes of an amount that was read
 module _ (s : List ℕ) where
-  whole_part : (a : Amount) (r : Option Amount) → (prefix_len digit_byte s ≡ 0 → ⊥) → prefix_len digit_byte s ≤ 8 → fraction_of (drop (prefix_len digit_byte s) s) ≡ r → with_fraction (numeral (take (prefix_len digit_byte s) s)) (prefix_len digit_byte s) r ≡ Some a → SpellsAmount (take a.len s) a.size × (a.len ≤ length s)
+  whole_part : (a : Amount) (r : Option Amount) → (prefix_len digit_byte s ≡ 0 → ⊥) → prefix_len digit_byte s ≤ 8 → fraction_of (drop (prefix_len digit_byte s) s) ≡ r → with_fraction (numeral (take (prefix_len digit_byte s) s)) (prefix_len digit_byte s) r ≡ Some a → SpellsAmount (take a.len s) a.value × (a.len ≤ length s)
   whole_part a None some few e h = absurd (none-some a h)
   whole_part a (Some f) some few e h =
       let n = prefix_len digit_byte s in
       let p = fraction-part (drop n s) f e in
       let inside = prefix_len-le-length digit_byte s in
       let long : length (take n s) ≡ n = length-take-le n s inside in
-      let got : Amount = record { size = numeral (take n s) * 65536 + f.size; len = n + f.len } in
+      let got : Amount = record { value = numeral (take n s) * 65536 + f.value; len = n + f.len } in
       let front : take (n + f.len) s ≡ take n s ++ pointed p.digits = take-add n f.len s ∙ ap (λ (t : List ℕ). take n s ++ t) p.front in
       let room : f.len ≤ length s - n = omega (arith, p.count, ap length p.front, length-take f.len (drop n s), length-drop n s) in
-      let first : SpellsAmount (take (n + f.len) s) (numeral (take n s) * 65536 + f.size) = record {
+      let first : SpellsAmount (take (n + f.len) s) (numeral (take n s) * 65536 + f.value) = record {
         whole = take n s;
         fraction = p.digits;
-        part = f.size;
+        part = f.value;
         spelled = front;
         wholes = run-digits s;
         some = ⊎_elim (λ z. absurd (some z)) (λ z. omega arith) (cases-lt_zero n);
@@ -104,9 +102,9 @@ module _ (s : List ℕ) where
         nearest = subst (Nearest p.digits) (sym p.value) (nearest p.digits);
         value = refl;
       } in
-      subst (λ (x : Amount). SpellsAmount (take x.len s) x.size × (x.len ≤ length s)) (some_is got a h) (first, omega arith)
+      subst (λ (x : Amount). SpellsAmount (take x.len s) x.value × (x.len ≤ length s)) (some_is got a h) (first, omega arith)
 
-  amount-spelled : (a : Amount) → amount_of s ≡ Some a → SpellsAmount (take a.len s) a.size × (a.len ≤ length s)
+  amount-spelled : (a : Amount) → amount_of s ≡ Some a → SpellsAmount (take a.len s) a.value × (a.len ≤ length s)
   amount-spelled a e =
       let n = prefix_len digit_byte s in
       let read = with_fraction (numeral (take n s)) n (fraction_of (drop n s)) in
@@ -120,9 +118,9 @@ module _ (s : List ℕ) where
 
 -- what a unit was read from
 record Named (t : List ℕ) (m : Measure) : Type 0 where
-  pub front : t ≡ unit_text m.order ++ drop m.len t
-  pub count : m.len ≡ length (unit_text m.order)
-  pub longest : Longest m.order (drop m.len t)
+  pub front : t ≡ unit_text m.value ++ drop m.len t
+  pub count : m.len ≡ length (unit_text m.value)
+  pub longest : Longest m.value (drop m.len t)
 
 -- a unit that does not stand at the start is not there
 shut : (t : List ℕ) (p : Order) (tail : List ℕ) → begins_with (unit_text p) t ≡ false → t ≡ unit_text p ++ tail → ⊥
@@ -133,7 +131,7 @@ module _ (t : List ℕ) (m : Measure) where
   named o fits longest e =
       let rest = drop (length (unit_text o)) t in
       let front = front-begins (unit_text o) t fits in
-      let got : Measure = record { order = o; len = length (unit_text o) } in
+      let got : Measure = record { value = o; len = length (unit_text o) } in
       subst (Named t) (some_is got m e) (record { front = front; count = refl; longest = longest rest front })
 
   points_longest : (rest : List ℕ) → Longest Points rest
@@ -177,17 +175,17 @@ module _ (t : List ℕ) (m : Measure) where
       (λ _ e₄. absurd (none-some m e₄)))))
 
 module _ (s : List ℕ) (d : Dimen) where
-  measure-spelled : (a : Amount) (r : Option Measure) → amount_of s ≡ Some a → measure_of (drop a.len s) ≡ r → with_measure s a r ≡ Some d → SpellsMeasure s d.size d.order d.len × (d.size ≤ largest)
+  measure-spelled : (a : Amount) (r : Option Measure) → amount_of s ≡ Some a → measure_of (drop a.len s) ≡ r → with_measure s a r ≡ Some d → SpellsMeasure s d.size d.order d.end × (d.size ≤ largest)
   measure-spelled a None e u h = absurd (none-some d h)
   measure-spelled a (Some m) e u h =
       let used = a.len + m.len in
-      let got : Dimen = record { size = a.size; order = m.order; len = used + swallowed (drop used s) } in
+      let got : Dimen = record { size = a.value; order = m.value; end = used + swallowed (drop used s) } in
       let unit = unit-spelled (drop a.len s) m u in
       let amount = amount-spelled s a e in
       let rest = drop m.len (drop a.len s) in
       let over : drop used s ≡ rest = sym (drop-drop m.len a.len s) in
       let count : length (take a.len s) ≡ a.len = length-take-le a.len s amount.1 in
-      let spelled : SpellsMeasure s a.size m.order (used + swallowed (drop used s)) = record {
+      let spelled : SpellsMeasure s a.value m.value (used + swallowed (drop used s)) = record {
         bytes = take a.len s;
         rest = rest;
         spelled = sym (take-append-drop a.len s) ∙ ap (λ (t : List ℕ). take a.len s ++ t) unit.front;
@@ -196,16 +194,16 @@ module _ (s : List ℕ) (d : Dimen) where
         len = ap (λ (t : List ℕ). used + swallowed t) over ∙ omega (arith, count, unit.count);
       } in
       ⊎_elim
-      (λ good. subst (λ (x : Dimen). SpellsMeasure s x.size x.order x.len × (x.size ≤ largest))
-      (some_is got d (sym (cond-true (leb a.size largest) (Some got) None good) ∙ h))
-      (spelled, leb-true a.size largest good))
-      (λ bad. absurd (none-some d (sym (cond-false (leb a.size largest) (Some got) None bad) ∙ h)))
-      (cases_Bool (leb a.size largest))
+      (λ good. subst (λ (x : Dimen). SpellsMeasure s x.size x.order x.end × (x.size ≤ largest))
+      (some_is got d (sym (cond-true (leb a.value largest) (Some got) None good) ∙ h))
+      (spelled, leb-true a.value largest good))
+      (λ bad. absurd (none-some d (sym (cond-false (leb a.value largest) (Some got) None bad) ∙ h)))
+      (cases_Bool (leb a.value largest))
 
-  amount-first : (r : Option Amount) → amount_of s ≡ r → with_unit s r ≡ Some d → SpellsMeasure s d.size d.order d.len × (d.size ≤ largest)
+  amount-first : (r : Option Amount) → amount_of s ≡ r → with_unit s r ≡ Some d → SpellsMeasure s d.size d.order d.end × (d.size ≤ largest)
   amount-first None e h = absurd (none-some d h)
   amount-first (Some a) e h = measure-spelled a (measure_of (drop a.len s)) e refl h
 
   -- what is read is spelled, and not too large
-  pub dimen-spelled : dimen_of s ≡ Some d → SpellsMeasure s d.size d.order d.len × (d.size ≤ largest)
+  pub dimen-spelled : dimen_of s ≡ Some d → SpellsMeasure s d.size d.order d.end × (d.size ≤ largest)
   dimen-spelled h = amount-first (amount_of s) refl h

@@ -9,7 +9,6 @@ use Rattle.lengths.specs.declared.order.Order.{Order}
 use Rattle.lengths.specs.declared.order.Order.TheVariants.{Points, Fil, Fill, Filll}
 use Rattle.lengths.specs.declared.dimen.Dimen.{Dimen}
 use Rattle.lengths.specs.declared.length.Length.{Length}
-use Rattle.lengths.specs.declared.glue.Stretch.{Stretch}
 use Rattle.lengths.specs.Orders.{unit_text}
 use Rattle.lengths.specs.Dimens.{largest, swallowed, begins_with, dimen_of}
 use Rattle.lengths.specs.Lengths.{missing_at, length_at}
@@ -65,18 +64,17 @@ length-within text place l e =
     let left = length-drop place text in
     (subst (λ (z : ℤ). negsuc 16777214 ≤ℤ z) (sym sp) range.0, subst (λ (z : ℤ). z ≤ℤ pos 16777215) (sym sp) range.1, omega (arith, end, inside.0), omega (arith, end, left, inside.0, inside.1))
 
-stretch-by : (text : List ℕ) (at : ℕ) (s : Stretch) (r : Option Dimen) → dimen_of (drop at text) ≡ r → stretch_placed text at r ≡ Ok s → (pos 0 ≤ℤ s.size) × (s.size ≤ℤ pos 16777215) × (at < s.end) × (s.end ≤ length text)
+stretch-by : (text : List ℕ) (at : ℕ) (s : Dimen) (r : Option Dimen) → dimen_of (drop at text) ≡ r → stretch_placed text at r ≡ Ok s → (s.size ≤ 16777215) × (at < s.end) × (s.end ≤ length text)
 stretch-by text at s None e h = absurd (ok_err s (missing_at text at) (sym h))
 stretch-by text at s (Some d) e h =
     let q = dimen-spelled (drop at text) d e in
-    let inside = measures-inside (drop at text) d.size d.order d.len q.0 in
-    let got : Stretch = record { size = pos d.size; order = d.order; end = at + d.len } in
+    let inside = measures-inside (drop at text) d.size d.order d.end q.0 in
+    let got : Dimen = record { size = d.size; order = d.order; end = at + d.end } in
     let left = length-drop at text in
-    let small = q.1 in
-    subst (λ (x : Stretch). (pos 0 ≤ℤ x.size) × (x.size ≤ℤ pos 16777215) × (at < x.end) × (x.end ≤ length text)) (ok_is got s h)
-    (omega (arith, ints), omega (arith, ints), omega (arith, inside.0), omega (arith, left, inside.0, inside.1))
+    subst (λ (x : Dimen). (x.size ≤ 16777215) × (at < x.end) × (x.end ≤ length text)) (ok_is got s h)
+    (q.1, omega (arith, inside.0), omega (arith, left, inside.0, inside.1))
 
-stretch-within : (text : List ℕ) (at : ℕ) (s : Stretch) → stretch_at text at ≡ Ok s → (pos 0 ≤ℤ s.size) × (s.size ≤ℤ pos 16777215) × (at < s.end) × (s.end ≤ length text)
+stretch-within : (text : List ℕ) (at : ℕ) (s : Dimen) → stretch_at text at ≡ Ok s → (s.size ≤ 16777215) × (at < s.end) × (s.end ≤ length text)
 unfolding stretch_at
 stretch-within text at s e = stretch-by text at s (dimen_of (drop at text)) refl e
 
@@ -85,13 +83,13 @@ abbrev pub GlueWithin : List ℕ → ℕ → GlueParts → Type 0
 GlueWithin text place g = InRange g.gap.natural g.gap.stretch × (place < g.end) × (g.end ≤ length text)
 
 module _ (text : List ℕ) (place : ℕ) (g : GlueParts) where
-  plus-by : (l : Length) (at : ℕ) (r : Result Stretch Fault) → length_at text place ≡ Ok l → l.end ≤ at → stretch_at text at ≡ r → stretched l.sp r ≡ Ok g → GlueWithin text place g
+  plus-by : (l : Length) (at : ℕ) (r : Result Dimen Fault) → length_at text place ≡ Ok l → l.end ≤ at → stretch_at text at ≡ r → stretched l.sp r ≡ Ok g → GlueWithin text place g
   plus-by l at (Err f) there on e h = absurd (ok_err g f (sym h))
   plus-by l at (Ok s) there on e h =
       let first = length-within text place l there in
       let then = stretch-within text at s e in
-      let got : GlueParts = record { gap = parts l.sp s.size s.order; end = s.end } in
-      subst (GlueWithin text place) (ok_is got g h) ((first.0, first.1, then.0, then.1), omega (arith, first.2, then.2), then.3)
+      let got : GlueParts = record { gap = parts l.sp (pos s.size) s.order; end = s.end } in
+      subst (GlueWithin text place) (ok_is got g h) ((first.0, first.1, omega (arith, ints), omega (arith, ints, then.0)), omega (arith, first.2, then.1), then.2)
 
   length-by : (r : Result Length Fault) → length_at text place ≡ r → behind_length text r ≡ Ok g → GlueWithin text place g
   length-by (Err f) e h = absurd (ok_err g f (sym h))

@@ -1,13 +1,16 @@
 -- An amount with its unit as it is read from the first byte on. Assumes nothing.
 use Rattle.std.specs.Prelude.{ℕ, ◌+◌, Bool, true, false, cond, ◌&&◌, List, [], ◌∷◌, length, drop, Some, None, Option, ◌==◌, nat_le}
 use Rattle.reader.specs.Classes.{space_byte}
-use Rattle.lengths.specs.declared.amount.Amount.{Amount}
-use Rattle.lengths.specs.declared.dimen.Measure.{Measure}
+use Rattle.lengths.specs.declared.spelled.Spelled.{Spelled}
 use Rattle.lengths.specs.declared.dimen.Dimen.{Dimen}
 use Rattle.lengths.specs.declared.order.Order.{Order}
 use Rattle.lengths.specs.declared.order.Order.TheVariants.{Points, Fil, Fill, Filll}
 use Rattle.lengths.specs.Orders.{unit_text}
-use Rattle.lengths.specs.Amounts.{amount_of}
+use Rattle.lengths.specs.Amounts.{Amount, amount_of}
+
+-- a unit, and how many bytes spell it
+abbrev pub Measure : Type 0
+Measure = Spelled Order
 
 -- the largest size of a length and of a stretch
 abbrev pub largest : ℕ
@@ -25,7 +28,7 @@ swallowed [] = 0
 swallowed (b ∷ bs) = cond (space_byte b) 1 0
 
 abbrev pub measured : Order → Option Measure
-measured o = Some (record { order = o; len = length (unit_text o) })
+measured o = Some (record { value = o; len = length (unit_text o) })
 
 -- the longest unit that fits
 abbrev pub measure_of : List ℕ → Option Measure
@@ -37,11 +40,11 @@ measure_of s =
 
 -- an amount and its unit, n bytes in all, where the amount is not too large
 abbrev pub sized : List ℕ → ℕ → Order → ℕ → Option Dimen
-sized s size o n = cond (nat_le size largest) (Some (record { size = size; order = o; len = n + swallowed (drop n s) })) None
+sized s size o n = cond (nat_le size largest) (Some (record { size = size; order = o; end = n + swallowed (drop n s) })) None
 
 abbrev pub with_measure : List ℕ → Amount → Option Measure → Option Dimen
 with_measure s a None = None
-with_measure s a (Some m) = sized s a.size m.order (a.len + m.len)
+with_measure s a (Some m) = sized s a.value m.value (a.len + m.len)
 
 abbrev pub with_unit : List ℕ → Option Amount → Option Dimen
 with_unit s None = None

@@ -1,11 +1,18 @@
 -- A decimal fraction in 65,536ths: the steps of The Program, §102, and what they are to give. Assumes nothing.
 use Rattle.std.specs.Prelude.{ℕ, ◌+◌, ◌-◌, ◌*◌, ◌/◌, ◌^◌, ◌<◌, ◌≤◌, List, [], ◌∷◌, map, length}
+use mathlib.Core.HLevel.{×₃_prop}
+use Rattle.std.specs.Coded.{Unit-prop, le_prop}
 use Rattle.std.specs.Int.Digits.{number_from_digits}
 
 -- each byte is one of 0 to 9
 abbrev pub Digits : List ℕ → Type 0
 Digits [] = Unit {0}
 Digits (d ∷ ds) = (48 ≤ d) × (d ≤ 57) × Digits ds
+
+-- any two proofs of it are equal, which a ghost field needs
+pub Digits-prop : (ds : List ℕ) → IsProp (Digits ds)
+Digits-prop [] = Unit-prop
+Digits-prop (d ∷ ds) = ×₃_prop le_prop le_prop (Digits-prop ds)
 
 -- the digits as one whole number
 abbrev pub numeral : List ℕ → ℕ

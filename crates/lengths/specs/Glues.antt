@@ -5,7 +5,6 @@ use Rattle.reader.specs.Tokens.{spaces_end}
 use Rattle.lengths.specs.declared.order.Order.TheVariants.{Points}
 use Rattle.lengths.specs.declared.dimen.Dimen.{Dimen}
 use Rattle.lengths.specs.declared.length.Length.{Length}
-use Rattle.lengths.specs.declared.glue.Stretch.{Stretch}
 use Rattle.lengths.specs.declared.glue.Glue.{Glue}
 use Rattle.lengths.specs.Dimens.{begins_with, dimen_of}
 use Rattle.lengths.specs.Lengths.{missing_at, length_at}
@@ -20,16 +19,16 @@ abbrev pub glue_parts : Result Glue Fault → Result GlueParts Fault
 glue_parts (Ok g) = Ok (record { gap = parts_of g.gap; end = g.end })
 glue_parts (Err f) = Err f
 
-abbrev pub stretch_placed : List ℕ → ℕ → Option Dimen → Result Stretch Fault
+abbrev pub stretch_placed : List ℕ → ℕ → Option Dimen → Result Dimen Fault
 stretch_placed text place None = Err (missing_at text place)
-stretch_placed text place (Some d) = Ok (record { size = pos d.size; order = d.order; end = place + d.len })
+stretch_placed text place (Some d) = Ok (record { size = d.size; order = d.order; end = place + d.end })
 
 -- the stretch at a place of a text
-unfoldable pub stretch_at : List ℕ → ℕ → Result Stretch Fault
+unfoldable pub stretch_at : List ℕ → ℕ → Result Dimen Fault
 stretch_at text place = stretch_placed text place (dimen_of (drop place text))
 
-abbrev pub stretched : ℤ → Result Stretch Fault → Result GlueParts Fault
-stretched z (Ok s) = Ok (record { gap = parts z s.size s.order; end = s.end })
+abbrev pub stretched : ℤ → Result Dimen Fault → Result GlueParts Fault
+stretched z (Ok s) = Ok (record { gap = parts z (pos s.size) s.order; end = s.end })
 stretched z (Err f) = Err f
 
 -- behind a length: `plus` with spaces and a stretch, or no stretch

@@ -20,7 +20,7 @@ by_order Filll size n = None
 
 abbrev pub in_points : Option Dimen → Option Length
 in_points None = None
-in_points (Some d) = by_order d.order d.size d.len
+in_points (Some d) = by_order d.order d.size d.end
 
 abbrev pub points_of : List ℕ → Option Length
 points_of s = in_points (dimen_of s)

@@ -4,20 +4,9 @@ ghost use Rattle.std.specs.List.{prefix_len};
 ghost use Rattle.lengths.specs.Fractions.{Digits, numeral};
 ghost use Rattle.lengths.specs.Amounts.{digit_byte, behind_point, fraction_of, amount_of};
 
+use crate::digits::DigitRun;
 use crate::fraction::round_decimals;
-
-// An amount in 65,536ths, and how many bytes spell it.
-#[derive(Clone, Copy)]
-pub(crate) struct Amount {
-    pub(crate) size: u64,
-    pub(crate) len: usize,
-}
-
-fn is_digit(b: u8) -> bool
-    ensures { result ≡ digit_byte b }
-{
-    b >= b'0' && b <= b'9'
-}
+use crate::spelled::Spelled;
 
 // How many digits stand at the start.
 fn digit_run(s: &[u8]) -> usize
@@ -25,65 +14,61 @@ fn digit_run(s: &[u8]) -> usize
     ensures inside { result ≤ length s.now }
     ensures digits { Digits (take result s.now) }
 {
-    for (i, b) in s.iter().enumerate() {
-        if !is_digit(*b) {
-            return i;
-        }
-    }
-    s.len()
+    s.iter().take_while(|b| b.is_ascii_digit()).count()
 }
 
 // The number that at most eight digits spell.
-fn whole_value(digits: &[u8]) -> u64
-    requires { (Digits digits.now) × (length digits.now < 9) }
-    ensures is { result ≡ numeral digits.now }
+fn whole_value(digits: DigitRun<'_>) -> u64
+    requires { length digits.bytes.now < 9 }
+    ensures is { result ≡ numeral digits.entry.bytes.now }
     ensures small { result < 100000000 }
 {
-    let mut n = 0;
-    for d in digits {
-        n = n * 10 + (*d - b'0') as u64;
-    }
-    n
+    digits
+        .bytes
+        .iter()
+        .fold(0, |n, d| n * 10 + u64::from(*d - b'0'))
 }
 
 // The digits behind a point: 1 to 17 of them.
-fn behind_point(tail: &[u8]) -> Option<Amount>
+fn behind_point(tail: &[u8]) -> Option<Spelled<u64>>
     ensures is { result ≡ behind_point tail.now (prefix_len digit_byte tail.now) }
-    ensures small { IfSome result (λ a. (a.size ≤ 65536) × (a.len ≤ length tail.now + 1)) }
+    ensures small { IfSome result (λ a. (a.value ≤ 65536) × (a.len ≤ length tail.now + 1)) }
 {
     let n = digit_run(tail);
-    if n == 0 || n > 17 {
+    if !(1..=17).contains(&n) {
         return None;
     }
-    Some(Amount {
-        size: round_decimals(&tail[..n]) as u64,
+    let digits = DigitRun { bytes: &tail[..n] };
+    Some(Spelled {
+        value: u64::from(round_decimals(digits)),
         len: n + 1,
     })
 }
 
 // A point with its digits, or no fraction at all.
-fn fraction(s: &[u8]) -> Option<Amount>
+fn fraction(s: &[u8]) -> Option<Spelled<u64>>
     ensures is { result ≡ fraction_of s.now }
-    ensures small { IfSome result (λ a. (a.size ≤ 65536) × (a.len ≤ length s.now)) }
+    ensures small { IfSome result (λ a. (a.value ≤ 65536) × (a.len ≤ length s.now)) }
 {
     match s {
         [b'.', tail @ ..] => behind_point(tail),
-        _ => Some(Amount { size: 0, len: 0 }),
+        _ => Some(Spelled { value: 0, len: 0 }),
     }
 }
 
-// The amount at the start of the bytes: the longest run of digits, and the longest behind a point.
-pub(crate) fn amount_in(s: &[u8]) -> Option<Amount>
+// The amount at the start of the bytes, in 65,536ths: the longest run of digits, and the longest behind a point.
+pub(crate) fn amount_in(s: &[u8]) -> Option<Spelled<u64>>
     ensures is { result ≡ amount_of s.now }
-    ensures small { IfSome result (λ a. (a.size < 2 ^ 43) × (1 ≤ a.len) × (a.len ≤ length s.now)) }
+    ensures small { IfSome result (λ a. (a.value < 2 ^ 43) × (1 ≤ a.len) × (a.len ≤ length s.now)) }
 {
     let n = digit_run(s);
-    if n == 0 || n > 8 {
+    if !(1..=8).contains(&n) {
         return None;
     }
-    let part = fraction(&s[n..])?;
-    Some(Amount {
-        size: whole_value(&s[..n]) * 65_536 + part.size,
+    let (bytes, behind) = s.split_at(n);
+    let part = fraction(behind)?;
+    Some(Spelled {
+        value: whole_value(DigitRun { bytes }) * 65_536 + part.value,
         len: n + part.len,
     })
 }

@@ -4,23 +4,18 @@ ghost use Rattle.lengths.specs.Dimens.{begins_with, measure_of, swallowed, dimen
 
 use crate::amount::amount_in;
 use crate::order::Order;
+use crate::spelled::Spelled;
 
 // The largest size of a length and of a stretch.
 pub(crate) const LARGEST: u64 = 16_777_215;
 
-// A unit, and how many bytes spell it.
-#[derive(Clone, Copy)]
-pub(crate) struct Measure {
-    pub(crate) order: Order,
-    pub(crate) len: usize,
-}
-
-// An amount with its unit, and how many bytes they take with the space behind them.
+// An amount with its unit, and the place behind them and the one space byte that they swallow.
+// It has three parts, and a `Spelled` has two: a value and how many bytes spell it.
 #[derive(Clone, Copy)]
 pub(crate) struct Dimen {
     pub(crate) size: u64,
     pub(crate) order: Order,
-    pub(crate) len: usize,
+    pub(crate) end: usize,
 }
 
 // Whether the bytes begin with a word.
@@ -32,33 +27,22 @@ pub(crate) fn begins(s: &[u8], word: &[u8]) -> bool
 }
 
 // The unit at the start of the bytes, the longest that fits.
-fn measure_in(s: &[u8]) -> Option<Measure>
+fn measure_in(s: &[u8]) -> Option<Spelled<Order>>
     ensures is { result ≡ measure_of s.now }
     ensures inside { IfSome result (λ m. m.len ≤ length s.now) }
 {
-    if begins(s, b"pt") {
-        Some(Measure {
-            order: Order::Points,
-            len: 2,
-        })
+    let (value, len) = if begins(s, b"pt") {
+        (Order::Points, 2)
     } else if begins(s, b"filll") {
-        Some(Measure {
-            order: Order::Filll,
-            len: 5,
-        })
+        (Order::Filll, 5)
     } else if begins(s, b"fill") {
-        Some(Measure {
-            order: Order::Fill,
-            len: 4,
-        })
+        (Order::Fill, 4)
     } else if begins(s, b"fil") {
-        Some(Measure {
-            order: Order::Fil,
-            len: 3,
-        })
+        (Order::Fil, 3)
     } else {
-        None
-    }
+        return None;
+    };
+    Some(Spelled { value, len })
 }
 
 // One space byte at the start is swallowed, no more.
@@ -72,22 +56,17 @@ fn space_len(s: &[u8]) -> usize
     }
 }
 
-// The amount with its unit at the start of the bytes. The size is tested once, on the rounded amount.
+// The amount with its unit at the start of the bytes, with its end counted from there. The size is tested once, on the rounded amount.
 pub(crate) fn dimen_in(s: &[u8]) -> Option<Dimen>
     ensures is { result ≡ dimen_of s.now }
-    ensures inside { IfSome result (λ d. (d.size ≤ 16777215) × (1 ≤ d.len) × (d.len ≤ length s.now)) }
+    ensures inside { IfSome result (λ d. (d.size ≤ 16777215) × (1 ≤ d.end) × (d.end ≤ length s.now)) }
 {
     let amount = amount_in(s)?;
-    let start = amount.len;
-    let unit = measure_in(&s[start..])?;
-    let len = start + unit.len;
-    if amount.size <= LARGEST {
-        Some(Dimen {
-            size: amount.size,
-            order: unit.order,
-            len: len + space_len(&s[len..]),
-        })
-    } else {
-        None
-    }
+    let unit = measure_in(&s[amount.len..])?;
+    let len = amount.len + unit.len;
+    (amount.value <= LARGEST).then(|| Dimen {
+        size: amount.value,
+        order: unit.value,
+        end: len + space_len(&s[len..]),
+    })
 }

@@ -1,45 +1,34 @@
 //! Glue: a length, and perhaps `plus` and a stretch.
-ghost use Rattle.std.specs.Prelude.{◌≡◌, ◌<◌, ◌≤◌, length, pos, ◌≤ℤ◌, IfOk};
+ghost use Rattle.std.specs.Prelude.{◌≡◌, ◌<◌, ◌≤◌, length, IfOk};
 ghost use Rattle.lengths.specs.Laws.{ReadsGlue};
 ghost use Rattle.lengths.specs.Glues.{stretch_at, glue_parts, glue_at};
 
-use crate::dimen::{begins, dimen_in};
+use crate::dimen::{Dimen, begins, dimen_in};
 use crate::gap::Gap;
-use crate::length::{length_at, missing};
+use crate::length::{Length, length_at, missing};
 use crate::order::Order;
 use faults::Fault;
+use reader::text::rest_at;
 use reader::tokens::spaces_end;
 
-// A stretch in 65,536ths of its unit, its order, and the place behind it and the one space byte that it swallows.
-#[derive(Clone, Copy)]
-pub(crate) struct Stretch {
-    pub(crate) size: i64,
-    pub(crate) order: Order,
-    pub(crate) end: usize,
-}
-
-// A gap, and the place behind it in the text.
-#[derive(Clone, Copy)]
+// A gap, and the place behind it in the text. Hosts, contracts and tests name these fields.
+#[derive(Clone, Copy, PartialEq, Eq, Debug)]
 pub struct Glue {
     pub gap: Gap,
     pub end: usize,
 }
 
 // The stretch at a place of a text.
-fn stretch_at(text: &[u8], place: usize) -> Result<Stretch, Fault>
+fn stretch_at(text: &[u8], place: usize) -> Result<Dimen, Fault>
     ensures is { result ≡ stretch_at text.now place }
-    ensures inside { IfOk result (λ s. (pos 0 ≤ℤ s.size) × (s.size ≤ℤ pos 16777215) × (place < s.end) × (s.end ≤ length text.now)) }
+    ensures inside { IfOk result (λ d. (d.size ≤ 16777215) × (place < d.end) × (d.end ≤ length text.now)) }
 {
-    if place < text.len() {
-        if let Some(d) = dimen_in(&text[place..]) {
-            return Ok(Stretch {
-                size: d.size as i64,
-                order: d.order,
-                end: place + d.len,
-            });
-        }
-    }
-    Err(missing(text, place))
+    dimen_in(rest_at(text, place))
+        .map(|d| Dimen {
+            end: place + d.end,
+            ..d
+        })
+        .ok_or_else(|| missing(text, place))
 }
 
 // The glue at a place of a text.
@@ -48,17 +37,16 @@ pub fn glue_at(text: &[u8], place: usize) -> Result<Glue, Fault>
     ensures within { IfOk result (λ g. (place < g.end) × (g.end ≤ length text.now)) }
     ensures law { ReadsGlue text.now place (glue_parts result) }
 {
-    let length = length_at(text, place)?;
-    let end = length.end;
-    if begins(&text[end..], b"plus") {
+    let Length { sp, end } = length_at(text, place)?;
+    if begins(rest_at(text, end), b"plus") {
         let stretch = stretch_at(text, spaces_end(text, end + 4))?;
-        let gap = Gap::of(length.sp, stretch.size, stretch.order);
+        let gap = Gap::of(sp, stretch.size as i64, stretch.order);
         Ok(Glue {
             gap,
             end: stretch.end,
         })
     } else {
-        let gap = Gap::of(length.sp, 0, Order::Points);
+        let gap = Gap::of(sp, 0, Order::Points);
         Ok(Glue { gap, end })
     }
 }

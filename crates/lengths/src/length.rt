@@ -3,12 +3,14 @@ ghost use Rattle.std.specs.Prelude.{◌≡◌, ◌<◌, ◌≤◌, length, pos, 
 ghost use Rattle.lengths.specs.Laws.{ReadsLength};
 ghost use Rattle.lengths.specs.Lengths.{points_of, length_of, missing_at, length_at};
 
-use crate::dimen::{Dimen, dimen_in};
+use crate::dimen::dimen_in;
 use crate::order::Order;
 use faults::{Cause, Fault};
+use reader::text::rest_at;
 use reader::tokens::token_at;
 
 // A length in 65,536ths of a point, and the place behind it and the one space byte that it swallows.
+// Hosts, contracts and tests name these fields.
 #[derive(Clone, Copy, PartialEq, Eq, Debug)]
 pub struct Length {
     pub sp: i64,
@@ -20,19 +22,12 @@ fn points_in(s: &[u8]) -> Option<Length>
     ensures is { result ≡ points_of s.now }
     ensures inside { IfSome result (λ l. (pos 0 ≤ℤ l.sp) × (l.sp ≤ℤ pos 16777215) × (1 ≤ l.end) × (l.end ≤ length s.now)) }
 {
-    match dimen_in(s) {
-        Some(
-            Dimen {
-                size,
-                order: Order::Points,
-                len,
-            },
-        ) => Some(Length {
-            sp: size as i64,
-            end: len,
-        }),
-        _ => None,
-    }
+    dimen_in(s)
+        .filter(|d| d.order == Order::Points)
+        .map(|d| Length {
+            sp: d.size as i64,
+            end: d.end,
+        })
 }
 
 // The length at the start of the bytes, with its end counted from there. A minus turns the rounded amount.
@@ -57,15 +52,9 @@ fn length_in(s: &[u8]) -> Option<Length>
 pub(crate) fn missing(text: &[u8], place: usize) -> Fault
     ensures { result ≡ missing_at text.now place }
 {
-    if place >= text.len() {
-        return Cause::BadLength.at(text.len());
-    }
     match token_at(text, place) {
-        Err(fault) => match fault.cause {
-            Cause::BadByte | Cause::UnknownControl => fault,
-            _ => Cause::BadLength.at(place),
-        },
-        Ok(_) => Cause::BadLength.at(place),
+        Err(fault) if matches!(fault.cause, Cause::BadByte | Cause::UnknownControl) => fault,
+        _ => Cause::BadLength.at(place.min(text.len())),
     }
 }
 
@@ -75,13 +64,10 @@ pub fn length_at(text: &[u8], place: usize) -> Result<Length, Fault>
     ensures within { IfOk result (λ l. (negsuc 16777214 ≤ℤ l.sp) × (l.sp ≤ℤ pos 16777215) × (place < l.end) × (l.end ≤ length text.now)) }
     ensures law { ReadsLength text.now place result }
 {
-    if place < text.len() {
-        if let Some(l) = length_in(&text[place..]) {
-            return Ok(Length {
-                sp: l.sp,
-                end: place + l.end,
-            });
-        }
-    }
-    Err(missing(text, place))
+    length_in(rest_at(text, place))
+        .map(|l| Length {
+            end: place + l.end,
+            ..l
+        })
+        .ok_or_else(|| missing(text, place))
 }

@@ -2,6 +2,7 @@
 #![tactic(auto)]
 
 mod amount;
+mod digits;
 mod dimen;
 mod fraction;
 pub mod gap;
@@ -9,3 +10,4 @@ pub mod glue;
 pub mod length;
 pub mod order;
 pub mod samples;
+mod spelled;

@@ -2,8 +2,6 @@
 ghost use Rattle.lengths.specs.Samples.{samples, Each};
 
 // Every row of the table stands.
-pub fn samples_stand() -> bool
+pub fn samples_stand()
     ensures rows { Each samples }
-{
-    true
-}
+{}

@@ -1,1 +1,5 @@
 pub mod Worded
+pub mod Made
+pub mod Passing
+pub mod Products
+pub mod Characterless

@@ -1,5 +1,5 @@
 -- Which bytes are a word, and what any bytes measure.
-use Rattle.std.proofs.Common.{◌≡◌, ℕ, ◌<◌, ◌≤◌, true, false, leb, ◌⊎◌, List, length, Some, None, Ok, Err, Decides, Option, Result, sym, refl, ap, ◌∙◌, subst, inl, inr, arith}
+use Rattle.std.proofs.Common.{◌≡◌, ℕ, ◌<◌, ◌≤◌, true, false, leb, ◌⊎◌, List, length, Some, None, Ok, Err, MatchResult, Decides, Option, Result, sym, refl, ap, ◌∙◌, subst, inl, inr, arith}
 use Rattle.std.proofs.lemmas.Bool.{cases_Bool, leb-true, leb-false, le-leb, and_from, and_parts, and_cases, and_right, cond-true, cond-false}
 use Rattle.std.proofs.ByRecursion.{Decides-by_and}
 use Rattle.faults.specs.declared.Cause.TheVariants as cause
@@ -22,33 +22,31 @@ word-decided w = (
   λ h. and_from _ _ ((bytes-decided w).1 h.2) (and_from _ _ (le-leb _ _ h.0) (le-leb _ _ h.1)),
 )
 
--- what the loop and the test of the length find
-unfit-at : (w : List ℕ) (o : Option ℕ) → first_not word_byte w ≡ o → is_word w ≡ false → Some (bad_byte_or o (fault_at cause.WordLength 0)) ≡ unfit w
+-- what the search and the test of the length find
+unfit-at : (w : List ℕ) (o : Option ℕ) → first_not word_byte w ≡ o → is_word w ≡ false → unfit w ≡ Some (bad_byte_or o (fault_at cause.WordLength 0))
 unfit-at w o e n =
-    ap (λ q. Some (bad_byte_or q (fault_at cause.WordLength 0))) (sym e)
-    ∙ sym (cond-false (is_word w) None (Some (bad_byte_or (first_not word_byte w) (fault_at cause.WordLength 0))) n)
+    cond-false (is_word w) None (Some (bad_byte_or (first_not word_byte w) (fault_at cause.WordLength 0))) n
+    ∙ ap (λ q. Some (bad_byte_or q (fault_at cause.WordLength 0))) e
 
-pub unfit-byte : (w : List ℕ) (p : ℕ) → first_not word_byte w ≡ Some p → Some (fault_at cause.BadByte p) ≡ unfit w
+pub unfit-byte : (w : List ℕ) (p : ℕ) → first_not word_byte w ≡ Some p → unfit w ≡ Some (fault_at cause.BadByte p)
 unfit-byte w p e =
     elim (cases_Bool (is_word w)) [
-      | inl y ↦
-          let q : first_not word_byte w ≡ None = all_none word_byte w ((word-decided w).0 y).2 in
-          absurd (let z : ◌≡◌ {A = ℕ} 0 1 = cc in omega arith)
+      | inl y ↦ let q : first_not word_byte w ≡ None = all_none word_byte w ((word-decided w).0 y).2 in cc
       | inr n ↦ unfit-at w (Some p) e n
     ]
 
-pub unfit-length : (w : List ℕ) → first_not word_byte w ≡ None → word_long (length w) ≡ false → Some (fault_at cause.WordLength 0) ≡ unfit w
+pub unfit-length : (w : List ℕ) → first_not word_byte w ≡ None → word_long (length w) ≡ false → unfit w ≡ Some (fault_at cause.WordLength 0)
 unfit-length w e n = unfit-at w None e (and_right (word_bytes w) (word_long (length w)) n)
 
-pub fits_word : (w : List ℕ) → first_not word_byte w ≡ None → word_long (length w) ≡ true → None ≡ unfit w
+pub fits_word : (w : List ℕ) → first_not word_byte w ≡ None → word_long (length w) ≡ true → unfit w ≡ None
 fits_word w e y =
-    sym (cond-true (is_word w) None _ (and_from (word_bytes w) (word_long (length w)) ((bytes-decided w).1 (none-all word_byte w e)) y))
+    cond-true (is_word w) None _ (and_from (word_bytes w) (word_long (length w)) ((bytes-decided w).1 (none-all word_byte w e)) y)
 
 pub word_fits : (w : List ℕ) → unfit w ≡ None → IsWord w
 word_fits w e =
     elim (cases_Bool (is_word w)) [
       | inl y ↦ (word-decided w).0 y
-      | inr n ↦ let q = unfit-at w (first_not word_byte w) refl n in absurd (let z : ◌≡◌ {A = ℕ} 0 1 = cc in omega arith)
+      | inr n ↦ let q = unfit-at w (first_not word_byte w) refl n in absurd (cc)
     ]
 
 too_long : (n : ℕ) → word_long n ≡ false → (n ≡ 0) ⊎ (255 < n)
@@ -59,7 +57,7 @@ unfit-why : (w : List ℕ) (f : Fault) (o : Option ℕ) → first_not word_byte 
 unfit-why w f (Some p) d e = let q = unfit-byte w p d in inl (p, first-is word_byte w p d, cc)
 unfit-why w f None d e =
     elim (cases_Bool (word_long (length w))) [
-      | inl y ↦ let q = fits_word w d y in absurd (let z : ◌≡◌ {A = ℕ} 0 1 = cc in omega arith)
+      | inl y ↦ let q = fits_word w d y in absurd (cc)
       | inr n ↦ let q = unfit-length w d n in inr (none-all word_byte w d, too_long (length w) n, cc)
     ]
 
@@ -79,20 +77,32 @@ measured-place meaning w f h (inl (inl (p, q, e))) = omega (arith, ap (λ x. x.p
 measured-place meaning w f h (inl (inr (b, n, e))) = omega (arith, ap (λ x. x.place) e)
 measured-place meaning w f h (inr (p, q, d, e)) = omega (arith, ap (λ x. x.place) e, h p q d)
 
--- the three ways to an answer, and a word's
+-- an answer's metrics and a refusal's place are within their bounds
+pub measured_within : {X : Type 0} (P : X → Type 0) (meaning : List ℕ → Result X ℕ) (w : List ℕ) (r : Result X Fault) → ((x : X) → IsWord w → meaning w ≡ Ok x → P x) → ((p : ℕ) → IsWord w → meaning w ≡ Err p → p < length w) → Measured meaning w r → MatchResult r P (λ f. f.place ≤ length w)
+measured_within P meaning w (Ok x) h g m = h x m.0 m.1
+measured_within P meaning w (Err f) h g m = measured-place meaning w f g m
+
+-- what the check of the bytes says
+refused : {X : Type 0} (o : Option Fault) (f : Fault) (r : Result X Fault) → ◌≡◌ {A = Result (Unit {0}) Fault} (Err f) (unless_unfit o (Ok tt)) → ◌≡◌ {A = Result X Fault} (Err f) (unless_unfit o r)
+refused (Some g) f r e = let s : f ≡ g = cc in ap Err s
+refused None f r e = cc
+
+passed : (o : Option Fault) → ◌≡◌ {A = Result (Unit {0}) Fault} (Ok tt) (unless_unfit o (Ok tt)) → o ≡ None
+passed (Some g) e = cc
+passed None e = refl
+
+pub word_passed : (w : List ℕ) → ◌≡◌ {A = Result (Unit {0}) Fault} (Ok tt) (unless_unfit (unfit w) (Ok tt)) → IsWord w
+word_passed w e = word_fits w (passed (unfit w) e)
+
 module _ {X : Type 0} (meaning : List ℕ → Result X ℕ) (w : List ℕ) where
-  measured-when : (o : Option Fault) → o ≡ unfit w → unless_unfit o (characterless (meaning w)) ≡ measured_by meaning w
-  unfolding measured_by
-  measured-when o e = ap (λ q. unless_unfit q (characterless (meaning w))) e
-
-  pub measured-refused : (f : Fault) → Some f ≡ unfit w → Err f ≡ measured_by meaning w
-  measured-refused f e = measured-when (Some f) e
-
-  pub measured-word : (r : Result X ℕ) → None ≡ unfit w → r ≡ meaning w → characterless r ≡ measured_by meaning w
-  measured-word r e d = ap characterless d ∙ measured-when None e
-
-  pub measured-missing : (f : Fault) (p : ℕ) → None ≡ unfit w → Err p ≡ meaning w → f ≡ fault_at cause.NoCharacter p → Err f ≡ measured_by meaning w
-  measured-missing f p e d q = ap Err q ∙ measured-word (Err p) e d
-
   pub measured-meant : IsWord w → measured_by meaning w ≡ characterless (meaning w)
-  measured-meant h = sym (measured-when None (sym (cond-true (is_word w) None _ ((word-decided w).1 h))))
+  unfolding measured_by
+  measured-meant h =
+      ap (λ o. unless_unfit o (characterless (meaning w))) (cond-true (is_word w) None _ ((word-decided w).1 h))
+
+  pub measured-refused : (f : Fault) → ◌≡◌ {A = Result (Unit {0}) Fault} (Err f) (unless_unfit (unfit w) (Ok tt)) → ◌≡◌ {A = Result X Fault} (Err f) (measured_by meaning w)
+  unfolding measured_by
+  measured-refused f e = refused (unfit w) f (characterless (meaning w)) e
+
+  pub measured-word : IsWord w → (r : Result X Fault) → r ≡ characterless (meaning w) → r ≡ measured_by meaning w
+  measured-word h r e = e ∙ sym (measured-meant h)

@@ -1,45 +1,16 @@
 -- The first byte that fails a test.
-use Rattle.std.specs.Prelude.{◌≡◌, ℕ, zero, suc, ◌+◌, ◌<◌, ◌≤◌, Bool, true, false, ltb, List, [], ◌∷◌, length, drop, Some, None, nat_lt, slice_index, refl}
-use Rattle.std.proofs.Common.{arith, inl, inr, sym, ap, ◌∙◌}
+use Rattle.std.specs.Prelude.{◌≡◌, ℕ, ◌<◌, ◌≤◌, Bool, true, not, List, [], ◌∷◌, length, Some, None, nat_lt, position, refl}
+use Rattle.std.proofs.Common.{arith, inl, inr, subst}
+use Rattle.std.proofs.Math.Bool.{not-not}
 use Rattle.std.specs.List.{prefix_len, AllByRecursion}
-use Rattle.std.proofs.lemmas.List.Sums.{prefix_len-drop_yes, prefix_len-drop_no, prefix_len-drop_all}
-use Rattle.std.proofs.lemmas.Bool.{cases_Bool, lt-ltb, le-ltb, ltb-true, ltb-false, cond-true, cond-false}
+use Rattle.std.proofs.lemmas.List.Sums.{prefix_len_passes, prefix_len_stops}
+use Rattle.std.proofs.lemmas.Bool.{cases_Bool, le-ltb, ltb-true, ltb-false, cond-false}
 use Rattle.measure.specs.Words.{first_not, FirstNot}
 
--- a loop that has passed i bytes
-abbrev pub Passed : (ℕ → Bool) → List ℕ → ℕ → Type 0
-Passed test w i = prefix_len test w ≡ i + prefix_len test (drop i w)
-
-module _ (test : ℕ → Bool) (w : List ℕ) (i : ℕ) (passed : Passed test w i) where
-  pub passed_more : i < length w → test (slice_index w i) ≡ true → Passed test w (i + 1)
-  passed_more h y = omega (arith, prefix_len-drop_yes test w i 0 h y)
-
-  pub first-here : i < length w → test (slice_index w i) ≡ false → Some i ≡ first_not test w
-  first-here h n =
-      let e : prefix_len test w ≡ i = omega (arith, prefix_len-drop_no test w i 0 h n) in
-      let t : ltb (prefix_len test w) (length w) ≡ true = lt-ltb _ _ (omega arith) in
-      ap Some (sym e) ∙ sym (cond-true _ (Some (prefix_len test w)) None t)
-
-  pub first-none : length w ≤ i → None ≡ first_not test w
-  first-none h =
-      let t : ltb (prefix_len test w) (length w) ≡ false = le-ltb _ _ (omega (arith, prefix_len-drop_all test w i h)) in
-      sym (cond-false _ (Some (prefix_len test w)) None t)
-
 module _ (test : ℕ → Bool) where
-  -- all before the first that fails pass
-  leading_passes : (w : List ℕ) (k : ℕ) → k < prefix_len test w → test (slice_index w k) ≡ true
-  leading_passes [] k h = absurd (omega arith)
-  leading_passes (b ∷ bs) zero h =
-      elim (cases_Bool (test b)) [ inl y ↦ y | inr n ↦ absurd (omega (arith, rw n at h)) ]
-  leading_passes (b ∷ bs) (suc k) h =
-      elim (cases_Bool (test b)) [ inl y ↦ leading_passes bs k (omega (arith, rw y at h)) | inr n ↦ absurd (omega (arith, rw n at h)) ]
-
-  leading_stops : (w : List ℕ) (k : ℕ) → prefix_len test w ≡ k → k < length w → test (slice_index w k) ≡ false
-  leading_stops [] k e h = absurd (omega arith)
-  leading_stops (b ∷ bs) zero e h =
-      elim (cases_Bool (test b)) [ inl y ↦ absurd (omega (arith, rw y at e)) | inr n ↦ n ]
-  leading_stops (b ∷ bs) (suc k) e h =
-      elim (cases_Bool (test b)) [ inl y ↦ leading_stops bs k (omega (arith, rw y at e)) (omega arith) | inr n ↦ absurd (omega (arith, rw n at e)) ]
+  -- it stands where the test's opposite first holds
+  pub first-position : (w : List ℕ) → position (λ b. not (test b)) w ≡ first_not test w
+  first-position w = λ i. first_not (λ b. not-not (test b) i) w
 
   -- where none fails all pass
   leading_all : (w : List ℕ) → length w ≤ prefix_len test w → AllByRecursion (λ b. test b ≡ true) w
@@ -56,15 +27,15 @@ module _ (test : ℕ → Bool) where
       elim (cases_Bool (nat_lt (prefix_len test w) (length w))) [
         | inl y ↦
             let q : prefix_len test w ≡ p = let s : Some (prefix_len test w) ≡ Some p = rw y at e in cc in
-            let h : p < length w = omega (arith, ltb-true _ _ y) in
-            (h, leading_stops w p q h, λ k l. leading_passes w k (omega arith))
-        | inr n ↦ let z : ◌≡◌ {A = ℕ} 0 1 = let s : None ≡ Some p = rw n at e in cc in absurd (omega arith)
+            let h : prefix_len test w < length w = ltb-true _ _ y in
+            subst (FirstNot test w) q (h, prefix_len_stops test w 0 h, λ k l. prefix_len_passes test w k 0 l)
+        | inr n ↦ let s : None ≡ Some p = rw n at e in cc
       ]
 
   pub none-all : (w : List ℕ) → first_not test w ≡ None → AllByRecursion (λ b. test b ≡ true) w
   none-all w e =
       elim (cases_Bool (nat_lt (prefix_len test w) (length w))) [
-        | inl y ↦ let z : ◌≡◌ {A = ℕ} 0 1 = let s : Some (prefix_len test w) ≡ None = rw y at e in cc in absurd (omega arith)
+        | inl y ↦ let s : Some (prefix_len test w) ≡ None = rw y at e in absurd (cc)
         | inr n ↦ leading_all w (ltb-false _ _ n)
       ]
 

@@ -1,12 +1,9 @@
 -- The monospaced measurer: its answers are in their ranges, and its definitions have their laws.
-use Rattle.std.specs.Prelude.{◌≡◌, ℕ, ◌-◌, ◌*◌, ◌^◌, ◌<◌, ◌≤◌, min, true, false, List, length, take, ℤ, pos, negsuc, ◌*ℤ◌, ◌≤ℤ◌, ◌<ℤ◌, Some, None, Ok, Err, Option, Result, FitsSigned, slice_index, refl}
-use Rattle.std.proofs.Common.{mul-le-mul, arith, inl, inr, sym, ap, subst, ◌∙◌}
-use Rattle.std.specs.Int.{w64}
-use mir.Val.{of_z, to_z, hbits}
+use Rattle.std.specs.Prelude.{◌≡◌, ℕ, ◌*◌, ◌<◌, ◌≤◌, min, true, false, List, length, take, ℤ, pos, negsuc, ◌*ℤ◌, ◌≤ℤ◌, ◌<ℤ◌, Some, None, Ok, Err, Option, Result, slice_index, refl}
+use Rattle.std.proofs.Common.{mul-le-mul, arith, sym, ap, subst, ◌∙◌}
 use Rattle.std.proofs.ByRecursion.{All-weaker}
-use Rattle.std.proofs.lemmas.List.{take_all}
-use Rattle.std.proofs.lemmas.Bool.{cases_lt}
-use Rattle.std.proofs.lemmas.Int.{ints, to_z-of_z, to_z_pos}
+use Rattle.std.proofs.lemmas.List.{take_all, take_min}
+use Rattle.std.proofs.lemmas.Int.{ints}
 use Rattle.extent.specs.declared.Plain.{Plain}
 use Rattle.measure.specs.declared.measurer.Metrics.{Metrics}
 use Rattle.measure.specs.Bounds.{Bounded}
@@ -20,20 +17,6 @@ pitch-size (pos a) n h l =
     let p : a * n ≤ 4194304 * 255 = let q : a ≤ 4194304 = omega (arith, ints) in mul-le-mul q l in
     omega (arith, ints)
 pitch-size (negsuc a) n h l = absurd h.0.le
-
--- the product as it is computed
-module _ (z : ℤ) (n : ℕ) (h : Upto 4194304 z) (l : n ≤ 255) where
-  fits : FitsSigned w64 z
-  fits = omega (arith, ints)
-
-  product : to_z w64 (of_z w64 z) *ℤ to_z w64 n ≡ z *ℤ pos n
-  product = let f = fits in let g : n < 2 ^ hbits w64 = omega arith in rw (to_z-of_z w64 z f, to_z_pos w64 n g)
-
-  pub product-fits : FitsSigned w64 (to_z w64 (of_z w64 z) *ℤ to_z w64 n)
-  product-fits = rw product (let p = pitch-size z n h l in omega (arith, ints))
-
-  pub product_is : to_z w64 (of_z w64 (to_z w64 (of_z w64 z) *ℤ to_z w64 n)) ≡ z *ℤ pos n
-  product_is = to_z-of_z w64 _ product-fits ∙ product
 
 has_le : (last : ℤ) (b : ℕ) → has_character last b ≡ true → pos b ≤ℤ last
 has_le last b e = grind (arith, ints)
@@ -63,19 +46,10 @@ pub mono-placed : (m : Parts) (w : List ℕ) (p : ℕ) → mono_meaning m w ≡ 
 mono-placed m w p e = let s : Monospaced m w (Err p) = subst (Monospaced m w) e (mono-law m w) in s.0
 
 -- of more than 255 bytes the first 255 are measured, of fewer all
-front-taken : (w : List ℕ) (n : ℕ) → n ≡ min (length w) 255 → take (n - 0) w ≡ take 255 w
-front-taken w n e =
-    elim (cases_lt (length w) 255) [
-      | inl h ↦ take_all (n - 0) w (omega arith) ∙ sym (take_all 255 w (omega arith))
-      | inr h ↦ ap (λ k. take k w) (let q : n - 0 ≡ 255 = omega arith in q)
-    ]
+pub front-taken : (w : List ℕ) (n : ℕ) → n ≡ min (length w) 255 → take n w ≡ take 255 w
+front-taken w n e = let f : n ≡ min 255 (length w) = omega arith in ap (λ k. take k w) f ∙ take_min 255 w
 
-module _ (m : Parts) (w : List ℕ) (n : ℕ) (r : Result (Metrics Plain) ℕ) (size : n ≡ min (length w) 255) (e : r ≡ mono_meaning m (take (n - 0) w)) where
-  pub always_mono : r ≡ mono_meaning m (take 255 w)
-  always_mono = e ∙ ap (mono_meaning m) (front-taken w n size)
-
-  pub word-mono : IsWord w → r ≡ mono_meaning m w
-  word-mono h = always_mono ∙ ap (mono_meaning m) (take_all 255 w h.1)
-
-  pub word-monospaced : IsWord w → Monospaced m w r
-  word-monospaced h = subst (Monospaced m w) (sym (word-mono h)) (mono-law m w)
+pub word-monospaced : (m : Parts) (w : List ℕ) (r : Result (Metrics Plain) ℕ) → r ≡ mono_meaning m (take 255 w) → IsWord w → Monospaced m w r
+word-monospaced m w r e h =
+    let q : r ≡ mono_meaning m w = e ∙ ap (mono_meaning m) (take_all 255 w h.1) in
+    subst (Monospaced m w) (sym q) (mono-law m w)

@@ -30,13 +30,13 @@ pub twin-bounded : (a b : Result (Metrics Plain) ℕ) (x : Metrics Twin) → ((y
 twin-bounded (Ok y) (Ok z) x h g e =
     let q : both_metrics y z ≡ x = cc in
     subst (Bounded 2 twin_num) q (both-bounded y z (h y refl) (g z refl))
-twin-bounded (Ok y) (Err p) x h g e = absurd (let z : ◌≡◌ {A = ℕ} 0 1 = cc in omega arith)
-twin-bounded (Err p) b x h g e = absurd (let z : ◌≡◌ {A = ℕ} 0 1 = cc in omega arith)
+twin-bounded (Ok y) (Err p) x h g e = cc
+twin-bounded (Err p) b x h g e = cc
 
 pub twin-spaced : (a b : Plain) → Spaced 1 plain_num a → Spaced 1 plain_num b → Spaced 2 twin_num (both_sides a b)
 twin-spaced a b h g k l = picked (Upto 16777215) k _ _ (h 0 (omega arith)) (g 0 (omega arith))
 
 pub twin-placed : (a b : Result (Metrics Plain) ℕ) (n p : ℕ) → ((q : ℕ) → a ≡ Err q → q < n) → ((q : ℕ) → b ≡ Err q → q < n) → twin_meaning a b ≡ Err p → p < n
-twin-placed (Ok y) (Ok z) n p h g e = absurd (let z : ◌≡◌ {A = ℕ} 0 1 = cc in omega arith)
+twin-placed (Ok y) (Ok z) n p h g e = cc
 twin-placed (Ok y) (Err q) n p h g e = let s : q ≡ p = cc in g p (ap Err s)
 twin-placed (Err q) b n p h g e = let s : q ≡ p = cc in h p (ap Err s)

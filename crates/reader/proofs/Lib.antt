@@ -4,3 +4,4 @@ pub mod Ranges
 pub mod Runs
 pub mod Reading
 pub mod Reaching
+pub mod Finding

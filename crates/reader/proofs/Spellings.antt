@@ -1,7 +1,8 @@
 -- The control words and their letters. Assumes nothing.
-use Rattle.std.proofs.Common.{◌≡◌, ℕ, ◌+◌, ◌<◌, ◌≤◌, true, false, List, [], ◌∷◌, length, get_or, drop, Some, None, sym, refl, ap, ◌∙◌, inl, inr, arith, lit≤}
+use Rattle.std.proofs.Common.{◌≡◌, ℕ, ◌≤◌, cond, List, [], ◌∷◌, length, Some, sym, refl, ap, ◌∙◌, inl, inr, arith, lit≤}
+use Rattle.std.specs.List.{find}
 use Rattle.std.specs.Str.{bytes_eq}
-use Rattle.std.proofs.lemmas.List.{at_drop_more, at_drop_all}
+use Rattle.std.proofs.lemmas.List.Recursion.{same_from_clauses}
 use Rattle.std.proofs.lemmas.Slice.Eq.{bytes_eq-Decides}
 use Rattle.std.proofs.lemmas.Bool.{cases_Bool, cond-true, cond-false}
 use Rattle.reader.specs.declared.tokens.Control.{Control}
@@ -9,19 +10,10 @@ use Rattle.reader.specs.declared.tokens.Control.TheVariants.{Kern, Hfil, Tabskip
 use Rattle.reader.specs.Tokens.{letters_of, controls, first_spelled, spelled}
 use Rattle.reader.specs.Reads.{LettersApart}
 
--- one step of the search through some control words
-module _ (l : List ℕ) (cs : List Control) (i : ℕ) (d : Control) (lt : i < length cs) where
-  pub found_here : bytes_eq l (letters_of (get_or cs i d)) ≡ true → first_spelled l (drop i cs) ≡ Some (get_or cs i d)
-  unfolding first_spelled
-  found_here t = at_drop_more (first_spelled l) cs i d lt ∙ cond-true _ _ _ t
-
-  pub found_later : bytes_eq l (letters_of (get_or cs i d)) ≡ false → first_spelled l (drop i cs) ≡ first_spelled l (drop (i + 1) cs)
-  unfolding first_spelled
-  found_later t = at_drop_more (first_spelled l) cs i d lt ∙ cond-false _ _ _ t
-
-pub found_none : (l : List ℕ) (cs : List Control) (i : ℕ) → length cs ≤ i → first_spelled l (drop i cs) ≡ None
-unfolding first_spelled
-found_none l cs i le = at_drop_all (first_spelled l) cs i le
+-- the first of some control words with these letters is found
+pub spelled-found : (l : List ℕ) → find (λ c. bytes_eq l (letters_of c)) controls ≡ spelled l
+unfolding spelled first_spelled
+spelled-found l = same_from_clauses (find (λ c. bytes_eq l (letters_of c))) (first_spelled l) (λ c r. cond (bytes_eq l (letters_of c)) (Some c) r) refl (λ c cs. refl) (λ c cs. refl) controls
 
 -- the letters of each control word name it ..
 pub spelled-letters : (c : Control) → spelled (letters_of c) ≡ Some c

@@ -9,8 +9,6 @@ use Rattle.reader.specs.declared.classes.Class.{Class}
 use Rattle.reader.specs.declared.classes.Class.TheVariants as class
 use Rattle.reader.specs.declared.tokens.Control.{Control}
 use Rattle.reader.specs.declared.tokens.Control.TheVariants as control
-use Rattle.reader.specs.declared.tokens.Run.{Run}
-use Rattle.reader.specs.declared.tokens.Run.TheVariants as run
 use Rattle.reader.specs.declared.tokens.Token.{Token}
 use Rattle.reader.specs.declared.tokens.Token.TheVariants as token
 use Rattle.reader.specs.declared.tokens.Lexeme.{Lexeme}
@@ -47,11 +45,6 @@ blank_byte b = in_blank (class_of b)
 
 abbrev pub name_byte : ℕ → Bool
 name_byte b = in_letters (class_of b)
-
-abbrev pub belongs : Run → ℕ → Bool
-belongs run.Word = word_byte
-belongs run.Blank = blank_byte
-belongs run.Letters = name_byte
 
 -- & # $ % _ { }
 abbrev pub escapable : ℕ → Bool

@@ -2,4 +2,5 @@
 #![tactic(auto)]
 
 pub mod classes;
+pub mod text;
 pub mod tokens;

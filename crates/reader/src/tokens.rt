@@ -1,12 +1,12 @@
 //! The token at a place of a text.
-ghost use Rattle.std.specs.Prelude.{◌≡◌, ◌+◌, ◌^◌, ◌<◌, ◌≤◌, true, ◌∷◌, length, ◌≢◌};
+ghost use Rattle.std.specs.Prelude.{◌≡◌, ◌+◌, ◌^◌, ◌<◌, length, drop, ◌≢◌};
 ghost use Rattle.std.specs.List.{prefix_len};
-ghost use Rattle.std.specs.Str.{bytes_eq};
 ghost use Rattle.reader.specs.Classes.{IsSpecial};
 ghost use Rattle.reader.specs.Reads.{Alone, LettersApart, Longest, Onward, Reads};
-ghost use Rattle.reader.specs.Tokens.{after_backslash, belongs, blank_byte, control_word, escapable, first_spelled, letters_of, mark_of, name_byte, spaces_end, spelled, token_at, token_of, word_byte, word_of};
+ghost use Rattle.reader.specs.Tokens.{after_backslash, blank_byte, control_word, escapable, letters_of, mark_of, name_byte, spaces_end, spelled, token_at, token_of, word_byte, word_of};
 
 use crate::classes::{Class, class_of};
+use crate::text::{rest_at, run_len};
 use faults::{Cause, Fault};
 
 // The control words. Each is a backslash and its letters.
@@ -44,14 +44,14 @@ pub enum Token {
     CloseBrace,
 }
 
-// A token and the place behind it.
+// A token and the place behind it. Hosts, contracts and tests name these fields.
 #[derive(Clone, Copy, PartialEq, Eq, Debug)]
 pub struct Lexeme {
     pub token: Token,
     pub end: usize,
 }
 
-// All control words.
+// All control words: one is found by its spelling, so that each is spelled in one place.
 static CONTROLS: [Control; 9] = [
     Control::Kern,
     Control::Hfil,
@@ -84,43 +84,28 @@ impl Control {
     }
 }
 
-// The bytes that a run is made of.
-#[derive(Clone, Copy)]
-enum Run {
-    // letters and other word bytes
-    Word,
-    // space bytes
-    Blank,
-    // letters alone
-    Letters,
-}
-
 // A word has at most this many bytes.
 const LONGEST_WORD: usize = 255;
 
-// Whether a byte may stand in a run.
-fn in_run(run: Run, b: u8) -> bool
-    ensures { result ≡ belongs run b }
+// A byte of a word: a letter or another.
+fn is_word_byte(b: u8) -> bool
+    ensures { result ≡ word_byte b }
 {
-    match (run, class_of(b)) {
-        (Run::Word, Class::Letter | Class::Other) => true,
-        (Run::Blank, Class::Space) => true,
-        (Run::Letters, Class::Letter) => true,
-        _ => false,
-    }
+    matches!(class_of(b), Class::Letter | Class::Other)
 }
 
-// How many bytes the run at the start of `s` has.
-fn run_len(run: Run, s: &[u8]) -> usize
-    ensures is { result ≡ prefix_len (belongs run) s.now }
-    ensures within { result ≤ length s.now }
+// A byte of a run of spaces.
+fn is_blank(b: u8) -> bool
+    ensures { result ≡ blank_byte b }
 {
-    for (i, b) in s.iter().enumerate() {
-        if !in_run(run, *b) {
-            return i;
-        }
-    }
-    s.len()
+    class_of(b) == Class::Space
+}
+
+// A byte of a control word.
+fn is_letter(b: u8) -> bool
+    ensures { result ≡ name_byte b }
+{
+    class_of(b) == Class::Letter
 }
 
 // The bytes that stand for themselves behind a backslash.
@@ -130,88 +115,14 @@ fn is_escapable(b: u8) -> bool
     matches!(b, b'&' | b'#' | b'$' | b'%' | b'_' | b'{' | b'}')
 }
 
-// Whether the letters `first` and `more` spell a control word.
-fn spells(control: Control, first: u8, more: &[u8]) -> bool
-    ensures { result ≡ bytes_eq (first ∷ more.now) (letters_of control) }
+// The control word that some letters spell.
+fn control_named(letters: &[u8]) -> Option<Control>
+    ensures { result ≡ spelled letters.now }
 {
-    match control.spelling() {
-        [] => false,
-        [head, tail @ ..] => first == *head && more == tail,
-    }
-}
-
-// The first of some control words that the letters `first` and `more` spell.
-fn first_spelled(among: &[Control], first: u8, more: &[u8]) -> Option<Control>
-    ensures { result ≡ first_spelled (first ∷ more.now) among.now }
-{
-    for control in among {
-        if spells(*control, first, more) {
-            return Some(*control);
-        }
-    }
-    None
-}
-
-// The control word that the letters `first` and `more` spell.
-fn control_named(first: u8, more: &[u8]) -> Option<Control>
-    ensures { result ≡ spelled (first ∷ more.now) }
-{
-    first_spelled(&CONTROLS, first, more)
-}
-
-// The control word at `place`: its letters are `next` and the longest run in `rest`, and the spaces behind them are skipped.
-fn control_word(next: u8, rest: &[u8], place: usize) -> Result<Lexeme, Fault>
-    requires inside { place + 2 + length rest.now < 2 ^ 64 }
-    requires letter { name_byte next ≡ true }
-    ensures { result ≡ control_word (next ∷ rest.now) place }
-{
-    let letters = run_len(Run::Letters, rest);
-    let (more, behind) = rest.split_at(letters);
-    match control_named(next, more) {
-        Some(control) => {
-            let spaces = run_len(Run::Blank, behind);
-            Ok(Lexeme {
-                token: Token::Control(control),
-                end: place + 2 + letters + spaces,
-            })
-        }
-        None => Err(Cause::UnknownControl.at(place)),
-    }
-}
-
-// What a backslash at `place` begins, with the byte `next` behind it and then `rest`.
-fn escape(next: u8, rest: &[u8], place: usize) -> Result<Lexeme, Fault>
-    requires { place + 2 + length rest.now < 2 ^ 64 }
-    ensures { result ≡ after_backslash (next ∷ rest.now) place }
-{
-    if is_escapable(next) {
-        return Ok(Lexeme {
-            token: Token::Word {
-                place: place + 1,
-                len: 1,
-            },
-            end: place + 2,
-        });
-    }
-    if in_run(Run::Letters, next) {
-        return control_word(next, rest, place);
-    }
-    Err(Cause::UnknownControl.at(place))
-}
-
-// The run of word bytes at the start of `s`, which stands at `place`.
-fn word(s: &[u8], place: usize) -> Result<Lexeme, Fault>
-    requires { place + length s.now < 2 ^ 64 }
-    ensures { result ≡ word_of (prefix_len word_byte s.now) place }
-{
-    let len = run_len(Run::Word, s);
-    if len > LONGEST_WORD {
-        return Err(Cause::WordLength.at(place));
-    }
-    Ok(Lexeme {
-        token: Token::Word { place, len },
-        end: place + len,
-    })
+    CONTROLS
+        .iter()
+        .copied()
+        .find(|control| letters == control.spelling())
 }
 
 // The mark of a special byte other than the backslash.
@@ -228,30 +139,88 @@ fn mark(b: u8) -> Token
     }
 }
 
-// The token that `s`, which stands at `place`, begins with.
-fn first(s: &[u8], place: usize) -> Result<Lexeme, Fault>
-    requires { place + length s.now < 2 ^ 64 }
-    ensures { result ≡ token_of s.now place }
-{
-    match s {
-        [] => Ok(Lexeme {
-            token: Token::End,
-            end: place,
-        }),
-        [b'\\'] => Err(Cause::UnknownControl.at(place)),
-        [b'\\', next, rest @ ..] => escape(*next, rest, place),
-        [b, ..] => match class_of(*b) {
-            Class::Bad => Err(Cause::BadByte.at(place)),
-            Class::Space => Ok(Lexeme {
-                token: Token::Space,
-                end: place + run_len(Run::Blank, s),
+// What is left of a text at a place.
+#[derive(Clone, Copy)]
+struct Rest<'a> {
+    bytes: &'a [u8],
+    place: usize,
+    ghost fits: { place + length bytes.now < 2 ^ 64 },
+}
+
+impl Rest<'_> {
+    // The control word whose backslash stands first. The spaces behind it are skipped.
+    fn control_word(self) -> Result<Lexeme, Fault>
+        ensures { result ≡ control_word (drop 1 self.entry.bytes.now) self.entry.place }
+    {
+        let unknown = Cause::UnknownControl.at(self.place);
+        let [_, name @ ..] = self.bytes else {
+            return Err(unknown);
+        };
+        let (letters, behind) = name.split_at(run_len(name, is_letter));
+        let control = control_named(letters).ok_or(unknown)?;
+        let spaces = run_len(behind, is_blank);
+        Ok(Lexeme {
+            token: Token::Control(control),
+            end: self.place + 1 + letters.len() + spaces,
+        })
+    }
+
+    // What the backslash that stands first begins.
+    fn escape(self) -> Result<Lexeme, Fault>
+        ensures { result ≡ after_backslash (drop 1 self.entry.bytes.now) self.entry.place }
+    {
+        match self.bytes {
+            [_, b, ..] if is_escapable(*b) => Ok(Lexeme {
+                token: Token::Word {
+                    place: self.place + 1,
+                    len: 1,
+                },
+                end: self.place + 2,
             }),
-            Class::Special => Ok(Lexeme {
-                token: mark(*b),
-                end: place + 1,
+            _ => self.control_word(),
+        }
+    }
+
+    // The run of word bytes that stands first.
+    fn word(self) -> Result<Lexeme, Fault>
+        ensures { result ≡ word_of (prefix_len word_byte self.entry.bytes.now) self.entry.place }
+    {
+        let len = run_len(self.bytes, is_word_byte);
+        if len > LONGEST_WORD {
+            return Err(Cause::WordLength.at(self.place));
+        }
+        Ok(Lexeme {
+            token: Token::Word {
+                place: self.place,
+                len,
+            },
+            end: self.place + len,
+        })
+    }
+
+    // The token that stands first.
+    fn first(self) -> Result<Lexeme, Fault>
+        ensures { result ≡ token_of self.entry.bytes.now self.entry.place }
+    {
+        match self.bytes {
+            [] => Ok(Lexeme {
+                token: Token::End,
+                end: self.place,
             }),
-            Class::Letter | Class::Other => word(s, place),
-        },
+            [b'\\', ..] => self.escape(),
+            [b, ..] => match class_of(*b) {
+                Class::Bad => Err(Cause::BadByte.at(self.place)),
+                Class::Space => Ok(Lexeme {
+                    token: Token::Space,
+                    end: self.place + run_len(self.bytes, is_blank),
+                }),
+                Class::Special => Ok(Lexeme {
+                    token: mark(*b),
+                    end: self.place + 1,
+                }),
+                Class::Letter | Class::Other => self.word(),
+            },
+        }
     }
 }
 
@@ -262,13 +231,11 @@ pub fn token_at(text: &[u8], place: usize) -> Result<Lexeme, Fault>
     ensures only { Alone text.now place result }
     ensures onward { Onward text.now place result }
 {
-    if place >= text.len() {
-        return Ok(Lexeme {
-            token: Token::End,
-            end: place,
-        });
-    }
-    first(&text[place..], place)
+    let rest = Rest {
+        bytes: rest_at(text, place),
+        place,
+    };
+    rest.first()
 }
 
 // The place behind the longest run of space bytes at a place.
@@ -276,8 +243,5 @@ pub fn spaces_end(text: &[u8], place: usize) -> usize
     ensures answer { result ≡ spaces_end text.now place }
     ensures law { Longest blank_byte text.now place result }
 {
-    if place >= text.len() {
-        return place;
-    }
-    place + run_len(Run::Blank, &text[place..])
+    place + run_len(rest_at(text, place), is_blank)
 }

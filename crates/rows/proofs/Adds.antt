@@ -5,6 +5,7 @@ use Rattle.std.proofs.lemmas.Int.{ints}
 use Rattle.extent.specs.Sizes.{Within, Near}
 use Rattle.ledger.specs.declared.records.ItemRecord.{ItemRecord}
 use Rattle.ledger.specs.declared.records.ItemRecord.TheVariants.{CellWord, TemplateWord, Space, Kern, Hfil}
+use Rattle.rows.specs.Columns.{columns_in, widths_in, column_at}
 use Rattle.rows.specs.declared.state.EntryRecord.{EntryRecord}
 use Rattle.rows.specs.declared.state.LineRecord.{LineRecord}
 use Rattle.rows.specs.declared.state.Marks.{Marks}
@@ -20,7 +21,7 @@ use Rattle.ledger.specs.Ledger.{Item, Entry, Line, Ledger}
 use Rattle.ledger.specs.Calls.{Template, template_at, first_of, when, lacking, bytes_in, owes, used_items, used_entries, used_lines, used_text, on_open, puts, begun_at, fresh_at, starts, next_verdict, laid_entries, entries_in, done_of}
 use Rattle.rows.specs.Held.{part, Held, held_by, held_of, FitBy, pushed}
 use Rattle.ledger.specs.Items.{decoded_items, taken, meant}
-use Rattle.rows.specs.Good.{column_at, owed, templates_of, ledger_by, ledger_of, hand_by, open_in, begun_in, fresh_in, u_pieces}
+use Rattle.rows.specs.Good.{owed, templates_of, ledger_by, ledger_of, hand_by, open_in, begun_in, fresh_in, u_pieces}
 use Rattle.rows.specs.Sound.{Sound, Lies, stored_by}
 use Rattle.ledger.specs.Naturals.{natural, beyond, out_z, owed_of, items_now, add_verdict, start_verdict, natural_by}
 use Rattle.rows.proofs.Counts.{lines-count, entries-count, items-count, text-count}
@@ -58,14 +59,14 @@ inside z h = (grind (arith, ints), grind (arith, ints))
 
 -- counts of a ledger whose row is begun
 module _ {E : Type 0} (q : Preamble E) (p : List ℕ) (n : ℕ) (k m : Marks) (b : ℕ) (ls : List LineRecord) (es : List (EntryRecord E)) (is : List ItemRecord) (t : List ℕ) (fit : FitBy n k m b ls es is t) (c f : ℕ)
-    (lt : c < length q.columns.now) (fits : ((column_at q.columns.now c).from + ((column_at q.columns.now c).u + (column_at q.columns.now c).v)) ≤ length q.pieces.now) where
-  begun-owes : (st : Stage) (h : Held) → begun_in st ≡ true → owes (templates_of q) (hand_by st c f h) ≡ owed st (column_at q.columns.now c)
+    (lt : c < length (columns_in q.columns.now)) (fits : ((column_at (columns_in q.columns.now) c).from + ((column_at (columns_in q.columns.now) c).u + (column_at (columns_in q.columns.now) c).v)) ≤ length q.pieces.now) where
+  begun-owes : (st : Stage) (h : Held) → begun_in st ≡ true → owes (templates_of q) (hand_by st c f h) ≡ owed st (column_at (columns_in q.columns.now) c)
   begun-owes Closed h y = refl
   begun-owes Fresh h y = let z : ◌≡◌ {A = Bool} true false = sym y in cc
   begun-owes Begun h y = v-length q c lt fits
   begun-owes Omitted h y = refl
 
-  pub begun-items : (st : Stage) → begun_in st ≡ true → used_items (templates_of q) (ledger_by st c f (held_by p n k m ls es is t)) ≡ m.items + owed st (column_at q.columns.now c)
+  pub begun-items : (st : Stage) → begun_in st ≡ true → used_items (templates_of q) (ledger_by st c f (held_by p n k m ls es is t)) ≡ m.items + owed st (column_at (columns_in q.columns.now) c)
   begun-items Closed y = let z : ◌≡◌ {A = Bool} true false = sym y in cc
   begun-items Fresh y = let z : ◌≡◌ {A = Bool} true false = sym y in cc
   begun-items Begun y = let e = items-count p n k m b ls es is t fit in let o = begun-owes Begun (held_by p n k m ls es is t) y in rw (e, o)
@@ -91,7 +92,7 @@ module _ {E : Type 0} (q : Preamble E) (p : List ℕ) (n : ℕ) (k m : Marks) (b
 
   pub add_lacks : (st : Stage) → begun_in st ≡ true → (r : Room) (a : Item) (w : ℕ) → bytes_in a ≡ w
       → lacking r (used_items (templates_of q) (ledger_by st c f (held_by p n k m ls es is t)) + 1) (used_entries (ledger_by st c f (held_by p n k m ls es is t))) (used_lines (ledger_by st c f (held_by p n k m ls es is t))) (used_text (ledger_by st c f (held_by p n k m ls es is t)) + bytes_in a)
-      ≡ lacking r (m.items + owed st (column_at q.columns.now c) + 1) (m.entries + 1) (n + 1) (m.text + w)
+      ≡ lacking r (m.items + owed st (column_at (columns_in q.columns.now) c) + 1) (m.entries + 1) (n + 1) (m.text + w)
   add_lacks st y r a w e = rw (begun-items st y, begun-entries st y, begun_lines st y, begun-text st y, e)
 
 pub add_verdict_lem : (count : ℕ) (wide : Item → ℕ → ℤ) (P : List Template) (r : Room) (g : Ledger) (a : Item) (F : ℕ → ℤ) (w1 w2 : Bool)
@@ -108,14 +109,8 @@ put_ledger Fresh c f h h' a y e = let z : ◌≡◌ {A = Bool} true false = sym 
 put_ledger Begun c f h h' a y e = ap (ledger_by Begun c f) e
 put_ledger Omitted c f h h' a y e = ap (ledger_by Omitted c f) e
 
-pub items-now : (st : Stage) (c f : ℕ) (h : Held) → begun_in st ≡ true → items_now (hand_by st c f h) ≡ h.items
-items-now Closed c f h y = let z : ◌≡◌ {A = Bool} true false = sym y in cc
-items-now Fresh c f h y = refl
-items-now Begun c f h y = refl
-items-now Omitted c f h y = refl
-
-module _ {E : Type 0} (count : ℕ) (num : E → ℕ → ℤ) (wide : Item → ℕ → ℤ) (q : Preamble E) (s : State E) (m : Memory E) (sound : Sound count num wide q s m) (y : begun_in s.stage ≡ true) (lt : s.row.column < length q.columns.now)
-    (owe : E) (hb : s.stage ≡ Begun → (d : Owed E) → owe ≡ (get_or q.widths.now s.row.column d).v) (hr : (s.stage ≡ Begun → ⊥) → (k : ℕ) → k < count → num owe k ≡ pos 0) where
+module _ {E : Type 0} (count : ℕ) (num : E → ℕ → ℤ) (wide : Item → ℕ → ℤ) (q : Preamble E) (s : State E) (m : Memory E) (sound : Sound count num wide q s m) (y : begun_in s.stage ≡ true) (lt : s.row.column < length (columns_in q.columns.now))
+    (owe : E) (hb : s.stage ≡ Begun → (d : Owed E) → owe ≡ (get_or (widths_in q.columns.now) s.row.column d).v) (hr : (s.stage ≡ Begun → ⊥) → (k : ℕ) → k < count → num owe k ≡ pos 0) where
   pub owe_is : (k : ℕ) → k < count → num owe k ≡ natural wide (owed_of (templates_of q) (ledger_of q s m).hand) k
   owe_is k kc =
       owed-num wide (templates_of q) s.stage s.row.column s.row.first (held_of q.text.now s m) k (num owe k) y
@@ -201,8 +196,8 @@ module _ {E : Type 0} (count : ℕ) (num : E → ℕ → ℤ) (wide : Item → �
         ∙ sym (ap (λ (x : Ledger). map (natural_by wide k) (done_of x.hand)) L ∙ ap (λ (x : List Entry). map (natural_by wide k) x) (put_done s.stage s.row.column s.row.first (held_of q.text.now s m) a));
     sized = λ k t d kc lt. subst (λ (x : List (EntryRecord E)). Within 1073741823 (num (get_or x t d).width k)) (sym ee) (sound.sized k t d kc (omega arith));
     sized-done = λ o k t d kc lt. subst (λ (x : List (EntryRecord E)). Within 1073741823 (num (get_or x t d).width k)) (sym ee) (sound.sized-done (begun-open s.stage y) k t d kc (omega arith));
-    lies = λ t d lt. subst (λ (x : List (EntryRecord E)). Lies (length q.columns.now) (get_or x t d)) (sym ee) (sound.lies t d (omega arith));
-    lies-done = λ o t d lt. subst (λ (x : List (EntryRecord E)). Lies (length q.columns.now) (get_or x t d)) (sym ee) (sound.lies-done (begun-open s.stage y) t d (omega arith));
+    lies = λ t d lt. subst (λ (x : List (EntryRecord E)). Lies (length (columns_in q.columns.now)) (get_or x t d)) (sym ee) (sound.lies t d (omega arith));
+    lies-done = λ o t d lt. subst (λ (x : List (EntryRecord E)). Lies (length (columns_in q.columns.now)) (get_or x t d)) (sym ee) (sound.lies-done (begun-open s.stage y) t d (omega arith));
     begins = λ o. begins;
     us = sound.us;
     vs = sound.vs;
@@ -213,10 +208,10 @@ module _ {E : Type 0} (count : ℕ) (num : E → ℕ → ℤ) (wide : Item → �
   }
 
 module _ {E : Type 0} (q : Preamble E) (p : List ℕ) (n : ℕ) (k m : Marks) (b : ℕ) (ls : List LineRecord) (es : List (EntryRecord E)) (is : List ItemRecord) (t : List ℕ) (fit : FitBy n k m b ls es is t) (c f : ℕ)
-    (lt : c < length q.columns.now) (fits : ((column_at q.columns.now c).from + ((column_at q.columns.now c).u + (column_at q.columns.now c).v)) ≤ length q.pieces.now) where
+    (lt : c < length (columns_in q.columns.now)) (fits : ((column_at (columns_in q.columns.now) c).from + ((column_at (columns_in q.columns.now) c).u + (column_at (columns_in q.columns.now) c).v)) ≤ length q.pieces.now) where
   pub next-lacks : (st : Stage) → begun_in st ≡ true → (r : Room) (x u v : ℕ) → length (template_at (templates_of q) (c + 1)).u ≡ u → length (template_at (templates_of q) (c + 1)).v ≡ v
       → lacking r (used_items (templates_of q) (ledger_by st c f (held_by p n k m ls es is t)) + (length (template_at (templates_of q) (c + 1)).u + length (template_at (templates_of q) (c + 1)).v)) (used_entries (ledger_by st c f (held_by p n k m ls es is t)) + x) (used_lines (ledger_by st c f (held_by p n k m ls es is t))) (used_text (ledger_by st c f (held_by p n k m ls es is t)))
-      ≡ lacking r (m.items + owed st (column_at q.columns.now c) + (u + v)) (m.entries + 1 + x) (n + 1) m.text
+      ≡ lacking r (m.items + owed st (column_at (columns_in q.columns.now) c) + (u + v)) (m.entries + 1 + x) (n + 1) m.text
   next-lacks st y r x u v eu ev = rw (begun-items q p n k m b ls es is t fit c f lt fits st y, begun-entries q p n k m b ls es is t fit c f lt fits st y, begun_lines q p n k m b ls es is t fit c f lt fits st y, begun-text q p n k m b ls es is t fit c f lt fits st y, eu, ev)
 
 pub next-verdict : (x : ℕ) (P : List Template) (r : Room) (g : Ledger) (c d : ℕ) (w2 w3 : Bool) → c ≡ d → begun_at d g.hand ≡ true → w2 ≡ leb (length P) (c + 1)
@@ -262,10 +257,10 @@ start-verdict count wide P g c d F w1 same e1 f e2 =
     ∙ ap (λ (i : ℕ). first_of (when (beyond count (λ k. (natural wide (items_now g.hand) k +ℤ natural wide (template_at P i).u k) +ℤ natural wide (template_at P i).v k)) entry_wide ∷ [])) same
     ∙ sym (ap (λ (b : Bool). first_of (when (not b) foreign_cell ∷ when (beyond count (λ k. (natural wide (items_now g.hand) k +ℤ natural wide (template_at P d).u k) +ℤ natural wide (template_at P d).v k)) entry_wide ∷ [])) e1)
 
-module _ {E : Type 0} (count : ℕ) (num : E → ℕ → ℤ) (wide : Item → ℕ → ℤ) (q : Preamble E) (s : State E) (m : Memory E) (sound : Sound count num wide q s m) (y : fresh_in s.stage ≡ true) (lt : s.row.column < length q.columns.now)
-    (r : Owed E) (sum all : E)
-    (hs : (k : ℕ) → k < count → Near (num s.row.width k) → Near (num (get_or q.widths.now s.row.column r).u k) → num sum k ≡ num s.row.width k +ℤ num (get_or q.widths.now s.row.column r).u k)
-    (ha : (k : ℕ) → k < count → Near (num sum k) → Near (num (get_or q.widths.now s.row.column r).v k) → num all k ≡ num sum k +ℤ num (get_or q.widths.now s.row.column r).v k) where
+module _ {E : Type 0} (count : ℕ) (num : E → ℕ → ℤ) (wide : Item → ℕ → ℤ) (q : Preamble E) (s : State E) (m : Memory E) (sound : Sound count num wide q s m) (y : fresh_in s.stage ≡ true) (lt : s.row.column < length (columns_in q.columns.now))
+    (r : Owed E) (stored : (d : Owed E) → r ≡ get_or (widths_in q.columns.now) s.row.column d) (sum all : E)
+    (hs : (k : ℕ) → k < count → Near (num s.row.width k) → Near (num r.u k) → num sum k ≡ num s.row.width k +ℤ num r.u k)
+    (ha : (k : ℕ) → k < count → Near (num sum k) → Near (num r.v k) → num all k ≡ num sum k +ℤ num r.v k) where
   start-both : (k : ℕ) → k < count → (num sum k ≡ natural wide (items_now (ledger_of q s m).hand) k +ℤ natural wide (template_at (templates_of q) s.row.column).u k) × (num all k ≡ (natural wide (items_now (ledger_of q s m).hand) k +ℤ natural wide (template_at (templates_of q) s.row.column).u k) +ℤ natural wide (template_at (templates_of q) s.row.column).v k)
   start-both k kc =
       let o = fresh-open s.stage y in
@@ -273,13 +268,13 @@ module _ {E : Type 0} (count : ℕ) (num : E → ℕ → ℤ) (wide : Item → �
       let U = natural wide (template_at (templates_of q) s.row.column).u k in
       let V = natural wide (template_at (templates_of q) s.row.column).v k in
       let row = sound.row o k kc in
-      let eu = sound.us s.row.column k r kc lt in
-      let ev = sound.vs s.row.column k r kc lt in
+      let eu = ap (λ (x : Owed E). num x.u k) (stored r) ∙ sound.us s.row.column k r kc lt in
+      let ev = ap (λ (x : Owed E). num x.v k) (stored r) ∙ sound.vs s.row.column k r kc lt in
       let zero : natural wide (owed_of (templates_of q) (ledger_of q s m).hand) k ≡ pos 0 = ap (λ (x : List Item). natural wide x k) (fresh-owed (templates_of q) s.stage s.row.column s.row.first (held_of q.text.now s m) y) ∙ natural-none wide k in
       let inN : Within 1073741823 N = only N (natural wide (owed_of (templates_of q) (ledger_of q s m).hand) k) zero (sound.near o k kc) in
       let near = start-sums N U V inN (sound.small_u s.row.column k kc) (sound.small_v s.row.column k kc) in
-      let e1 = hs k kc (subst Near (sym row) near.0) (subst Near (sym eu) near.1) ∙ ap (λ (x : ℤ). x +ℤ num (get_or q.widths.now s.row.column r).u k) row ∙ ap (λ (x : ℤ). N +ℤ x) eu in
-      (e1, ha k kc (subst Near (sym e1) near.2) (subst Near (sym ev) near.3) ∙ ap (λ (x : ℤ). x +ℤ num (get_or q.widths.now s.row.column r).v k) e1 ∙ ap (λ (x : ℤ). (N +ℤ U) +ℤ x) ev)
+      let e1 = hs k kc (subst Near (sym row) near.0) (subst Near (sym eu) near.1) ∙ ap (λ (x : ℤ). x +ℤ num r.u k) row ∙ ap (λ (x : ℤ). N +ℤ x) eu in
+      (e1, ha k kc (subst Near (sym e1) near.2) (subst Near (sym ev) near.3) ∙ ap (λ (x : ℤ). x +ℤ num r.v k) e1 ∙ ap (λ (x : ℤ). (N +ℤ U) +ℤ x) ev)
     where
       only : (a z : ℤ) → z ≡ pos 0 → Within 1073741823 (a +ℤ z) → Within 1073741823 a
       only a z e h = (omega (arith, ints), omega (arith, ints))
@@ -290,7 +285,7 @@ module _ {E : Type 0} (count : ℕ) (num : E → ℕ → ℤ) (wide : Item → �
   pub start_is : (k : ℕ) → k < count → num all k ≡ (natural wide (items_now (ledger_of q s m).hand) k +ℤ natural wide (template_at (templates_of q) s.row.column).u k) +ℤ natural wide (template_at (templates_of q) s.row.column).v k
   start_is k kc = (start-both k kc).1
 
-pub start-ledger : {E : Type 0} (q : Preamble E) (st : Stage) (c f : ℕ) (h h' : Held) → fresh_in st ≡ true → c < length q.columns.now → h' ≡ pushed h (decoded_items q.text.now (u_pieces q (column_at q.columns.now c)) [])
+pub start-ledger : {E : Type 0} (q : Preamble E) (st : Stage) (c f : ℕ) (h h' : Held) → fresh_in st ≡ true → c < length (columns_in q.columns.now) → h' ≡ pushed h (decoded_items q.text.now (u_pieces q (column_at (columns_in q.columns.now) c)) [])
     → ledger_by Begun c f h' ≡ on_open (starts (templates_of q) (ledger_by st c f h)) (ledger_by st c f h) (hand_by st c f h)
 start-ledger q Closed c f h h' y lt e = let z : ◌≡◌ {A = Bool} true false = sym y in cc
 start-ledger q Fresh c f h h' y lt e = ap (ledger_by Begun c f) e ∙ ap (λ (t : Template). ledger_by Begun c f (pushed h t.u)) (sym (template_is q c lt))

@@ -15,6 +15,7 @@ use Rattle.widths.proofs.Settles.{merging_settles}
 use Rattle.ledger.specs.Ledger.{Item}
 use Rattle.ledger.specs.Calls.{laid_entries}
 use Rattle.ledger.specs.Naturals.{natural_by}
+use Rattle.rows.specs.Columns.{columns_in}
 use Rattle.rows.specs.declared.state.Memory.{Memory}
 use Rattle.rows.specs.declared.state.State.{State}
 use Rattle.rows.specs.declared.preamble.Preamble.{Preamble}
@@ -61,11 +62,11 @@ within-stored num k b [] h = tt
 within-stored num k b (r ∷ rs) h = (h.0, within-stored num k b rs h.1)
 
 -- the widths that the ledger's laid entries merge to are settled
-pub sound-settles : {E : Type 0} (count : ℕ) (num : E → ℕ → ℤ) (wide : Item → ℕ → ℤ) (q : Preamble E) (s : State E) (m : Memory E) → Sound count num wide q s m → length q.columns.now ≤ 32
+pub sound-settles : {E : Type 0} (count : ℕ) (num : E → ℕ → ℤ) (wide : Item → ℕ → ℤ) (q : Preamble E) (s : State E) (m : Memory E) → Sound count num wide q s m → length (columns_in q.columns.now) ≤ 32
     → (start : ℤ) (g : ℕ → ℤ) → Within 16777215 start → ((j : ℕ) → Within 16777215 (g j)) → (k : ℕ) → k < count
-    → Settled (map (natural_by wide k) (laid_entries (ledger_of q s m))) start g (length q.columns.now) (width (widest (map (natural_by wide k) (laid_entries (ledger_of q s m)))) g)
+    → Settled (map (natural_by wide k) (laid_entries (ledger_of q s m))) start g (length (columns_in q.columns.now)) (width (widest (map (natural_by wide k) (laid_entries (ledger_of q s m)))) g)
 sound-settles {E} count num wide q s m sound few start g a b k kc =
-    let n = length q.columns.now in
+    let n = length (columns_in q.columns.now) in
     let rs = take s.laid.entries m.entries.now in
     let es = map (stored_by num k) rs in
     subst (λ (xs : List (Sized ℤ)). Settled xs start g n (width (widest xs) g)) (sound.laid k kc)

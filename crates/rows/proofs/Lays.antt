@@ -6,6 +6,7 @@ use Rattle.std.proofs.lemmas.Bool.{cases_eq}
 use Rattle.std.proofs.lemmas.List.{map-append, take_more_set, get_or-set_same, get_or-set_other, append-nil}
 use Rattle.extent.specs.Sizes.{Within, Near}
 use Rattle.widths.specs.declared.Entry.{Entry as Sized}
+use Rattle.rows.specs.Columns.{columns_in, widths_in}
 use Rattle.rows.specs.declared.state.EntryRecord.{EntryRecord}
 use Rattle.rows.specs.declared.state.Memory.{Memory}
 use Rattle.rows.specs.declared.state.State.{State}
@@ -36,9 +37,9 @@ lay_spans P Omitted c f h y = joined-append entries_in h.lines (row (h.done ++ r
 sized_as : ℕ → ℕ → ℤ → Sized ℤ
 sized_as a b z = record { first = a; last = b; width = z }
 
-module _ {E : Type 0} (count : ℕ) (num : E → ℕ → ℤ) (wide : Item → ℕ → ℤ) (q : Preamble E) (s : State E) (m : Memory E) (sound : Sound count num wide q s m) (y : begun_in s.stage ≡ true) (lt : s.row.column < length q.columns.now)
+module _ {E : Type 0} (count : ℕ) (num : E → ℕ → ℤ) (wide : Item → ℕ → ℤ) (q : Preamble E) (s : State E) (m : Memory E) (sound : Sound count num wide q s m) (y : begun_in s.stage ≡ true) (lt : s.row.column < length (columns_in q.columns.now))
     (w : E)
-    (hb : s.stage ≡ Begun → (d : Owed E) (k : ℕ) → k < count → Near (num s.row.width k) → Near (num (get_or q.widths.now s.row.column d).v k) → num w k ≡ num s.row.width k +ℤ num (get_or q.widths.now s.row.column d).v k)
+    (hb : s.stage ≡ Begun → (d : Owed E) (k : ℕ) → k < count → Near (num s.row.width k) → Near (num (get_or (widths_in q.columns.now) s.row.column d).v k) → num w k ≡ num s.row.width k +ℤ num (get_or (widths_in q.columns.now) s.row.column d).v k)
     (hr : (s.stage ≡ Begun → ⊥) → w ≡ s.row.width) where
   H : Option OpenRow
   H = (ledger_of q s m).hand
@@ -60,9 +61,9 @@ module _ {E : Type 0} (count : ℕ) (num : E → ℕ → ℤ) (wide : Item → �
       (λ is.
       let d : Owed E = record { u = w; v = w } in
       let v = sound.vs s.row.column k d kc lt in
-      let ow = owed-num wide (templates_of q) s.stage s.row.column s.row.first (held_of q.text.now s m) k (num (get_or q.widths.now s.row.column d).v k) y (λ e. v) (λ never. absurd (never is)) in
+      let ow = owed-num wide (templates_of q) s.stage s.row.column s.row.first (held_of q.text.now s m) k (num (get_or (widths_in q.columns.now) s.row.column d).v k) y (λ e. v) (λ never. absurd (never is)) in
       let nn = near-two N O (sound.near o k kc) small in
-      hb is d k kc (subst Near (sym r) nn.0) (subst Near (sym ow) nn.1) ∙ ap (λ (x : ℤ). x +ℤ num (get_or q.widths.now s.row.column d).v k) r ∙ ap (λ (x : ℤ). N +ℤ x) ow)
+      hb is d k kc (subst Near (sym r) nn.0) (subst Near (sym ow) nn.1) ∙ ap (λ (x : ℤ). x +ℤ num (get_or (widths_in q.columns.now) s.row.column d).v k) r ∙ ap (λ (x : ℤ). N +ℤ x) ow)
       (λ never.
       let ow = owed-num wide (templates_of q) s.stage s.row.column s.row.first (held_of q.text.now s m) k (pos 0) y (λ e. absurd (never e)) (λ n. refl) in
       ap (λ (x : E). num x k) (hr never) ∙ r ∙ plus-zero N ∙ ap (λ (x : ℤ). N +ℤ x) ow)
@@ -119,16 +120,16 @@ module _ {E : Type 0} (count : ℕ) (num : E → ℕ → ℤ) (wide : Item → �
         (λ ne. subst (λ (z : EntryRecord E). Within 1073741823 (num z.width k)) (sym (get_or-set_other es me t e d ne)) (sound.sized-done o k t d kc (omega arith)))
         (cases_eq t me))
 
-    new-lies : (t : ℕ) (d : EntryRecord E) → t < s'.laid.entries → Lies (length q.columns.now) (get_or m'.entries.now t d)
+    new-lies : (t : ℕ) (d : EntryRecord E) → t < s'.laid.entries → Lies (length (columns_in q.columns.now)) (get_or m'.entries.now t d)
     unfolding e
     new-lies t d h =
         let es = m.entries.now in
         let me = s.marks.entries in
         let o = begun-open s.stage y in
-        subst (λ (z : List (EntryRecord E)). Lies (length q.columns.now) (get_or z t d)) (sym ee)
+        subst (λ (z : List (EntryRecord E)). Lies (length (columns_in q.columns.now)) (get_or z t d)) (sym ee)
         (⊎_elim
-        (λ same. subst (Lies (length q.columns.now)) (sym (ap (λ (i : ℕ). get_or (set es me e) i d) same ∙ get_or-set_same es me e d he)) (sound.begins o, lt))
-        (λ ne. subst (Lies (length q.columns.now)) (sym (get_or-set_other es me t e d ne)) (sound.lies-done o t d (omega arith)))
+        (λ same. subst (Lies (length (columns_in q.columns.now))) (sym (ap (λ (i : ℕ). get_or (set es me e) i d) same ∙ get_or-set_same es me e d he)) (sound.begins o, lt))
+        (λ ne. subst (Lies (length (columns_in q.columns.now))) (sym (get_or-set_other es me t e d ne)) (sound.lies-done o t d (omega arith)))
         (cases_eq t me))
 
     pub lay_sound : Sound count num wide q s' m'

@@ -2,6 +2,7 @@ pub mod Overs
 pub mod Grows
 pub mod Counts
 pub mod Rooms
+pub mod Verdicts
 pub mod Adds
 pub mod Lays
 pub mod Sounds

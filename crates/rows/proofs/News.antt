@@ -1,17 +1,16 @@
 -- A table on which nothing is laid. Assumes nothing.
-use Rattle.std.proofs.Common.{◌≡◌, ℕ, ◌+◌, ◌<◌, ◌≤◌, Bool, true, false, length, get_or, ℤ, refl, arith}
+use Rattle.std.proofs.Common.{◌≡◌, ℕ, ◌<◌, Bool, true, false, length, get_or, ℤ, refl, arith}
 use Rattle.extent.specs.Sizes.{Within}
 use Rattle.ledger.specs.declared.records.Owed.{Owed}
 use Rattle.ledger.specs.Chunks.{chunks, total}
-use Rattle.ledger.specs.Items.{taken}
 use Rattle.ledger.specs.Ledger.{Item}
 use Rattle.ledger.specs.Calls.{template_at}
 use Rattle.ledger.specs.Naturals.{natural}
+use Rattle.rows.specs.Columns.{columns_in, widths_in}
 use Rattle.rows.specs.declared.state.Memory.{Memory}
-use Rattle.rows.specs.declared.state.State.{State}
 use Rattle.rows.specs.declared.preamble.Preamble.{Preamble}
 use Rattle.rows.specs.Held.{FitBy}
-use Rattle.rows.specs.Good.{Good, Sane, column_at, templates_of, ledger_of, none, unused, new_ledger}
+use Rattle.rows.specs.Good.{Good, templates_of, ledger_of, none, unused, new_ledger}
 use Rattle.rows.specs.Sound.{Sound}
 
 module _ {E : Type 0} (q : Preamble E) (m : Memory E) (z : E) where
@@ -37,29 +36,22 @@ module _ {E : Type 0} (q : Preamble E) (m : Memory E) (z : E) where
     hand-text = refl;
   }
 
-  pub new-good : 1 ≤ length q.columns.now → length q.widths.now ≡ length q.columns.now → total taken q.pieces.now ≡ 0
-      → ((c : ℕ) → c < length q.columns.now → ((column_at q.columns.now c).from + ((column_at q.columns.now c).u + (column_at q.columns.now c).v)) ≤ length q.pieces.now)
-      → ((c : ℕ) → ((column_at q.columns.now c).u ≤ 64) × ((column_at q.columns.now c).v ≤ 64)) → Good (unused z) m q
-  new-good some widths pieces parts few = record {
+  pub new-good : Good (unused z) m q
+  new-good = let some = q.some in record {
     fit = new-fit;
     column = omega arith;
     items = omega arith;
     entries = omega arith;
     lines = omega arith;
     text = omega arith;
-    some = some;
-    widths = widths;
-    pieces = pieces;
-    parts = parts;
-    few = few;
   }
 
   closed : {X : Type 0} → ◌≡◌ {A = Bool} false true → X
   closed e = let y : ◌≡◌ {A = ℕ} 0 1 = cc in absurd (omega arith)
 
   pub new-sound : (count : ℕ) (num : E → ℕ → ℤ) (wide : Item → ℕ → ℤ)
-      → ((c k : ℕ) (d : Owed E) → k < count → c < length q.columns.now → num (get_or q.widths.now c d).u k ≡ natural wide (template_at (templates_of q) c).u k)
-      → ((c k : ℕ) (d : Owed E) → k < count → c < length q.columns.now → num (get_or q.widths.now c d).v k ≡ natural wide (template_at (templates_of q) c).v k)
+      → ((c k : ℕ) (d : Owed E) → k < count → c < length (columns_in q.columns.now) → num (get_or (widths_in q.columns.now) c d).u k ≡ natural wide (template_at (templates_of q) c).u k)
+      → ((c k : ℕ) (d : Owed E) → k < count → c < length (columns_in q.columns.now) → num (get_or (widths_in q.columns.now) c d).v k ≡ natural wide (template_at (templates_of q) c).v k)
       → ((c k : ℕ) → k < count → Within 68719476736 (natural wide (template_at (templates_of q) c).u k))
       → ((c k : ℕ) → k < count → Within 68719476736 (natural wide (template_at (templates_of q) c).v k)) → Sound count num wide q (unused z) m
   unfolding chunks
@@ -78,13 +70,3 @@ module _ {E : Type 0} (q : Preamble E) (m : Memory E) (z : E) where
     lies-done = λ e. closed e;
     begins = λ e. closed e;
   }
-
--- what always holds of a table, as its type has it
-pub good-sane : {E : Type 0} (s : State E) (m : Memory E) (q : Preamble E) → Good s m q → Sane s m q
-good-sane s m q g = (
-  (g.fit.lines, g.fit.items, g.fit.entries, g.fit.text),
-  (g.fit.since_items, g.fit.begin-items, g.fit.since_entries, g.fit.since_text),
-  (g.fit.laid-entries, g.fit.laid-items, g.fit.laid-text, g.fit.hand-items, g.fit.hand-text),
-  (g.column, g.items, g.entries, g.lines, g.text),
-  (g.some, g.widths, g.pieces, g.parts, g.few),
-)

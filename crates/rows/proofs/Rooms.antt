@@ -1,24 +1,24 @@
 -- Templates, stages and verdicts, by the numbers that the code compares.
-use Rattle.std.proofs.Common.{◌≡◌, ℕ, ◌+◌, ◌<◌, ◌≤◌, Bool, true, false, cond, eqb, List, [], ◌∷◌, ◌++◌, length, take, drop, set, Some, None, sym, refl, ap, ◌∙◌, add-zero, arith}
+use Rattle.std.proofs.Common.{◌≡◌, ℕ, ◌+◌, ◌<◌, ◌≤◌, Bool, true, false, cond, eqb, List, [], ◌∷◌, ◌++◌, length, take, drop, Some, sym, refl, ap, ◌∙◌, arith}
 use Rattle.std.specs.List.{flat_map}
 use Rattle.std.proofs.lemmas.List.{length-take-le, length-drop, take-append-drop, get_or-map, append-nil}
 use Rattle.std.proofs.lemmas.Bool.Decides.{nat_tests}
 use Rattle.ledger.specs.declared.records.ItemRecord.{ItemRecord}
+use Rattle.rows.specs.Columns.{columns_in, column_at}
 use Rattle.rows.specs.declared.state.EntryRecord.{EntryRecord}
 use Rattle.rows.specs.declared.state.LineRecord.{LineRecord}
 use Rattle.rows.specs.declared.state.Marks.{Marks}
-use Rattle.rows.specs.declared.state.State.{State}
 use Rattle.rows.specs.declared.state.Stage.{Stage}
 use Rattle.rows.specs.declared.state.Stage.TheVariants.{Closed, Fresh, Begun, Omitted}
 use Rattle.rows.specs.declared.preamble.Preamble.{Preamble}
 use Rattle.ledger.specs.declared.records.Room.{Room}
-use Rattle.ledger.specs.Refusals.{foreign_cell, table_full}
+use Rattle.ledger.specs.Refusals.{table_full}
 use Rattle.ledger.specs.Chunks.{total}
-use Rattle.ledger.specs.Ledger.{Item, Line, OpenRow, Ledger}
-use Rattle.ledger.specs.Calls.{Template, template_at, first_of, when, lacking, entries_in, items_in, bytes_in, all_items, used_items, used_entries, used_lines, used_text, take_verdict, rule_verdict, lay_verdict, fresh_at, begun_at, on_open, lays, tabs, carries, v_owed, ruled_by}
+use Rattle.ledger.specs.Ledger.{Item, Line, OpenRow}
+use Rattle.ledger.specs.Calls.{Template, template_at, first_of, when, lacking, entries_in, items_in, bytes_in, all_items, used_items, used_entries, used_lines, used_text, take_verdict, rule_verdict, fresh_at, begun_at, on_open, lays, tabs, carries, v_owed, ruled_by}
 use Rattle.ledger.specs.Items.{taken, meant, decoded_items}
 use Rattle.rows.specs.Held.{Held, held_by, FitBy, emptied, pushed, closed, laid_down, ruled}
-use Rattle.rows.specs.Good.{column_at, one, owed, u_pieces, v_pieces, template_of, templates_of, ledger_by, hand_by, open_in, fresh_in, begun_in, v_of, moved_on, omitted_in}
+use Rattle.rows.specs.Good.{one, owed, u_pieces, v_pieces, template_of, templates_of, ledger_by, hand_by, open_in, fresh_in, begun_in, v_of, omitted_in}
 use Rattle.ledger.proofs.Cuts.{total-append, length-chunks, chunks-none}
 use Rattle.rows.proofs.Grows.{empty-held, empty-fit}
 use Rattle.rows.proofs.Counts.{lines-count, entries-count, items-count, text-count}
@@ -38,22 +38,22 @@ zero-part {R} size xs a n z =
 pub length-piece : {X : Type 0} (xs : List X) (a n : ℕ) → a + n ≤ length xs → length (take n (drop a xs)) ≡ n
 length-piece xs a n h = let k : n ≤ length (drop a xs) = simp length-drop (omega arith) in length-take-le n (drop a xs) k
 
-module _ {E : Type 0} (q : Preamble E) (c : ℕ) (h : c < length q.columns.now) where
-  pub template_is : template_at (templates_of q) c ≡ template_of q (column_at q.columns.now c)
-  template_is = get_or-map (template_of q) q.columns.now c (record { from = 0; u = 0; v = 0 }) (record { u = []; v = [] }) h
+module _ {E : Type 0} (q : Preamble E) (c : ℕ) (h : c < length (columns_in q.columns.now)) where
+  pub template_is : template_at (templates_of q) c ≡ template_of q (column_at (columns_in q.columns.now) c)
+  template_is = get_or-map (template_of q) (columns_in q.columns.now) c (record { from = 0; u = 0; v = 0 }) (record { u = []; v = [] }) h
 
-  module _ (k : ((column_at q.columns.now c).from + ((column_at q.columns.now c).u + (column_at q.columns.now c).v)) ≤ length q.pieces.now) where
-    pub u-length : length (template_at (templates_of q) c).u ≡ (column_at q.columns.now c).u
+  module _ (k : ((column_at (columns_in q.columns.now) c).from + ((column_at (columns_in q.columns.now) c).u + (column_at (columns_in q.columns.now) c).v)) ≤ length q.pieces.now) where
+    pub u-length : length (template_at (templates_of q) c).u ≡ (column_at (columns_in q.columns.now) c).u
     u-length =
         ap (λ (t : Template). length t.u) template_is
-        ∙ length-chunks taken (meant q.text.now) (u_pieces q (column_at q.columns.now c)) []
-        ∙ length-piece q.pieces.now (column_at q.columns.now c).from (column_at q.columns.now c).u (omega arith)
+        ∙ length-chunks taken (meant q.text.now) (u_pieces q (column_at (columns_in q.columns.now) c)) []
+        ∙ length-piece q.pieces.now (column_at (columns_in q.columns.now) c).from (column_at (columns_in q.columns.now) c).u (omega arith)
 
-    pub v-length : length (template_at (templates_of q) c).v ≡ (column_at q.columns.now c).v
+    pub v-length : length (template_at (templates_of q) c).v ≡ (column_at (columns_in q.columns.now) c).v
     v-length =
         ap (λ (t : Template). length t.v) template_is
-        ∙ length-chunks taken (meant q.text.now) (v_pieces q (column_at q.columns.now c)) []
-        ∙ length-piece q.pieces.now ((column_at q.columns.now c).from + (column_at q.columns.now c).u) (column_at q.columns.now c).v (omega arith)
+        ∙ length-chunks taken (meant q.text.now) (v_pieces q (column_at (columns_in q.columns.now) c)) []
+        ∙ length-piece q.pieces.now ((column_at (columns_in q.columns.now) c).from + (column_at (columns_in q.columns.now) c).u) (column_at (columns_in q.columns.now) c).v (omega arith)
 
 pub record Enough (m : Room) (i e l t : ℕ) : Type 0 where
   pub items : i ≤ m.items
@@ -124,12 +124,6 @@ rule-ledger Fresh c f h h' x e = ap (ledger_by Fresh c f) e
 rule-ledger Begun c f h h' x e = ap (ledger_by Begun c f) e
 rule-ledger Omitted c f h h' x e = ap (ledger_by Omitted c f) e
 
-pub closed_none : (st : Stage) → open_in st ≡ false → one st ≡ 0
-closed_none Closed o = refl
-closed_none Fresh o = let z : ◌≡◌ {A = Bool} true false = o in cc
-closed_none Begun o = let z : ◌≡◌ {A = Bool} true false = o in cc
-closed_none Omitted o = let z : ◌≡◌ {A = Bool} true false = o in cc
-
 -- where no v is owed
 pub rest-v : {E : Type 0} (q : Preamble E) (st : Stage) (c : ℕ) → (st ≡ Begun → ⊥) → v_of q st c ≡ []
 rest-v q Closed c never = refl
@@ -140,18 +134,15 @@ rest-v q Omitted c never = refl
 pub nothing-pushed : (p : List ℕ) (h : Held) → h ≡ pushed h (decoded_items p [] [])
 nothing-pushed p h = sym (ap (λ (x : List Item). pushed h x) (chunks-none taken (meant p) []) ∙ rw (append-nil h.items))
 
-pub nothing-moved : {E : Type 0} (s : State E) → s.marks ≡ (moved_on s 0).marks
-nothing-moved s = rw (add-zero s.marks.items)
-
 some_is : (a b : OpenRow) → Some a ≡ Some b → a ≡ b
 some_is a b e = cc
 
 -- what is owed of v, in the ledger's words
-pub v-items : {E : Type 0} (q : Preamble E) (st : Stage) (c f : ℕ) (h : Held) (x : OpenRow) → c < length q.columns.now → begun_in st ≡ true → hand_by st c f h ≡ Some x → decoded_items q.text.now (v_of q st c) [] ≡ v_owed (templates_of q) x
+pub v-items : {E : Type 0} (q : Preamble E) (st : Stage) (c f : ℕ) (h : Held) (x : OpenRow) → c < length (columns_in q.columns.now) → begun_in st ≡ true → hand_by st c f h ≡ Some x → decoded_items q.text.now (v_of q st c) [] ≡ v_owed (templates_of q) x
 v-items q Closed c f h x lt b e = let z : ◌≡◌ {A = Bool} true false = sym b in cc
 v-items q Fresh c f h x lt b e = let z : ◌≡◌ {A = Bool} true false = sym b in cc
 v-items q Begun c f h x lt b e =
-    let t : (template_at (templates_of q) c).v ≡ decoded_items q.text.now (v_pieces q (column_at q.columns.now c)) [] = ap (λ (y : Template). y.v) (template_is q c lt) in
+    let t : (template_at (templates_of q) c).v ≡ decoded_items q.text.now (v_pieces q (column_at (columns_in q.columns.now) c)) [] = ap (λ (y : Template). y.v) (template_is q c lt) in
     let d = some_is (record { column = c; begun = true; omitted = false; first = f; done = h.done; items = h.items }) x e in
     sym t ∙ ap (λ (y : OpenRow). v_owed (templates_of q) y) d
 v-items q Omitted c f h x lt b e =
@@ -170,12 +161,6 @@ fresh_at_lem Fresh c f d h = refl
 fresh_at_lem Begun c f d h = refl
 fresh_at_lem Omitted c f d h = refl
 
-pub lay_yes : (g : Ledger) (c : ℕ) → begun_at c g.hand ≡ true → None ≡ lay_verdict g c
-lay_yes g c e = rw e
-
-pub lay_no : (g : Ledger) (c : ℕ) → begun_at c g.hand ≡ false → Some foreign_cell ≡ lay_verdict g c
-lay_no g c e = rw e
-
 -- a row that is begun, as a record
 unfoldable pub hand_in : Stage → ℕ → ℕ → Held → OpenRow
 hand_in st c f h = record { column = c; begun = begun_in st; omitted = omitted_in st; first = f; done = h.done; items = h.items }
@@ -193,7 +178,7 @@ begun-open Fresh b = refl
 begun-open Begun b = refl
 begun-open Omitted b = refl
 
-module _ {E : Type 0} (q : Preamble E) (st : Stage) (c f : ℕ) (h : Held) (lt : c < length q.columns.now) (b : begun_in st ≡ true) where
+module _ {E : Type 0} (q : Preamble E) (st : Stage) (c f : ℕ) (h : Held) (lt : c < length (columns_in q.columns.now)) (b : begun_in st ≡ true) where
   v-is : decoded_items q.text.now (v_of q st c) [] ≡ v_owed (templates_of q) (hand_in st c f h)
   v-is = v-items q st c f h (hand_in st c f h) lt b (hand-is st c f h (begun-open st b))
 
@@ -231,13 +216,9 @@ pub both : (a b : Bool) → true ≡ cond a b false → a ≡ true
 both true b e = refl
 both false b e = cc
 
-pub v-owed : {E : Type 0} (q : Preamble E) (st : Stage) (c : ℕ) → begun_in st ≡ true → ((column_at q.columns.now c).from + ((column_at q.columns.now c).u + (column_at q.columns.now c).v)) ≤ length q.pieces.now
-    → length (v_of q st c) ≡ owed st (column_at q.columns.now c)
+pub v-owed : {E : Type 0} (q : Preamble E) (st : Stage) (c : ℕ) → begun_in st ≡ true → ((column_at (columns_in q.columns.now) c).from + ((column_at (columns_in q.columns.now) c).u + (column_at (columns_in q.columns.now) c).v)) ≤ length q.pieces.now
+    → length (v_of q st c) ≡ owed st (column_at (columns_in q.columns.now) c)
 v-owed q Closed c b k = refl
 v-owed q Fresh c b k = let z : ◌≡◌ {A = Bool} true false = sym b in cc
-v-owed q Begun c b k = length-piece q.pieces.now ((column_at q.columns.now c).from + (column_at q.columns.now c).u) (column_at q.columns.now c).v (omega arith)
+v-owed q Begun c b k = length-piece q.pieces.now ((column_at (columns_in q.columns.now) c).from + (column_at (columns_in q.columns.now) c).u) (column_at (columns_in q.columns.now) c).v (omega arith)
 v-owed q Omitted c b k = refl
-
-pub entry-same : {E : Type 0} (xs ys : List (EntryRecord E)) (a b c d f g n o : ℕ) (v w : E) → xs ≡ ys → a ≡ b → c ≡ d → f ≡ g → n ≡ o → v ≡ w
-    → set xs a (record { first = c; last = f; count = n; width = v }) ≡ set ys b (record { first = d; last = g; count = o; width = w })
-entry-same xs ys a b c d f g n o v w e1 e2 e3 e4 e5 e6 = rw (e1, e2, e3, e4, e5, e6)

@@ -6,6 +6,7 @@ use Rattle.std.proofs.lemmas.Bool.{cases_eq}
 use Rattle.widths.specs.declared.Entry.{Entry as Sized}
 use Rattle.std.specs.List.{flat_map}
 use Rattle.extent.specs.Sizes.{Within}
+use Rattle.rows.specs.Columns.{columns_in}
 use Rattle.rows.specs.declared.state.EntryRecord.{EntryRecord}
 use Rattle.rows.specs.declared.state.Memory.{Memory}
 use Rattle.rows.specs.declared.state.State.{State}
@@ -60,10 +61,10 @@ module _ {E : Type 0} (count : ℕ) (num : E → ℕ → ℤ) (wide : Item → �
       (sym (get_or-take s.laid.entries m.entries.now t d lt) ∙ ap (λ (z : List (EntryRecord E)). get_or z t d) (sym te) ∙ get_or-take s.laid.entries m'.entries.now t d lt)
       (sound.sized k t d kc lt)
 
-  lies-again : (t : ℕ) (d : EntryRecord E) → t < s'.laid.entries → Lies (length q.columns.now) (get_or m'.entries.now t d)
+  lies-again : (t : ℕ) (d : EntryRecord E) → t < s'.laid.entries → Lies (length (columns_in q.columns.now)) (get_or m'.entries.now t d)
   lies-again t d h =
       let lt : t < s.laid.entries = omega arith in
-      subst (Lies (length q.columns.now))
+      subst (Lies (length (columns_in q.columns.now)))
       (sym (get_or-take s.laid.entries m.entries.now t d lt) ∙ ap (λ (z : List (EntryRecord E)). get_or z t d) (sym te) ∙ get_or-take s.laid.entries m'.entries.now t d lt)
       (sound.lies t d lt)
 
@@ -93,7 +94,7 @@ module _ {E : Type 0} (count : ℕ) (num : E → ℕ → ℤ) (wide : Item → �
       → ((k : ℕ) → k < count → Within 1073741823 (natural wide (items_now (ledger_of q s' m').hand) k +ℤ natural wide (owed_of (templates_of q) (ledger_of q s' m').hand) k))
       → ((k : ℕ) → k < count → map (stored_by num k) (part s'.laid.entries s'.marks.entries m'.entries.now) ≡ map (natural_by wide k) (done_of (ledger_of q s' m').hand))
       → ((k t : ℕ) (d : EntryRecord E) → k < count → t < s'.marks.entries → Within 1073741823 (num (get_or m'.entries.now t d).width k))
-      → ((t : ℕ) (d : EntryRecord E) → t < s'.marks.entries → Lies (length q.columns.now) (get_or m'.entries.now t d))
+      → ((t : ℕ) (d : EntryRecord E) → t < s'.marks.entries → Lies (length (columns_in q.columns.now)) (get_or m'.entries.now t d))
       → s'.row.first ≤ s'.row.column
       → Sound count num wide q s' m'
   open-sound row near done sized lies begins = record {
@@ -133,7 +134,7 @@ module _ {E : Type 0} (count : ℕ) (num : E → ℕ → ℤ) (wide : Item → �
       (λ k kc. ap (λ (n : ℕ). map (stored_by num k) (part n s'.marks.entries m'.entries.now)) el ∙ ap (λ (n : ℕ). map (stored_by num k) (part s.laid.entries n m'.entries.now)) em
       ∙ ap (λ (z : List (EntryRecord E)). map (stored_by num k) (part s.laid.entries s.marks.entries z)) ee ∙ sound.done o k kc ∙ ap (map (natural_by wide k)) (sym done))
       (λ k t d kc h. subst (λ (z : List (EntryRecord E)). Within 1073741823 (num (get_or z t d).width k)) (sym ee) (sound.sized-done o k t d kc (omega arith)))
-      (λ t d h. subst (λ (z : List (EntryRecord E)). Lies (length q.columns.now) (get_or z t d)) (sym ee) (sound.lies-done o t d (omega arith))) begins
+      (λ t d h. subst (λ (z : List (EntryRecord E)). Lies (length (columns_in q.columns.now)) (get_or z t d)) (sym ee) (sound.lies-done o t d (omega arith))) begins
 
 -- the parts of a ledger whose cell is started
 module _ (P : List Template) (c f : ℕ) (h : Held) where
@@ -206,7 +207,7 @@ module _ {E : Type 0} (count : ℕ) (num : E → ℕ → ℤ) (wide : Item → �
     (el : s'.laid.entries ≡ s.laid.entries) (em : s'.marks.entries ≡ s.marks.entries + 1) (since : s.laid.entries ≤ s.marks.entries) (he : s.marks.entries < length m.entries.now)
     (ee : m'.entries.now ≡ set m.entries.now s.marks.entries (record { first = s.row.first; last = s.row.column; count = n; width = w }))
     (L : ledger_of q s' m' ≡ on_open (tabs (templates_of q) (ledger_of q s m)) (ledger_of q s m) (ledger_of q s m).hand) (ll : laid_entries (ledger_of q s' m') ≡ laid_entries (ledger_of q s m))
-    (zero : (k : ℕ) → k < count → num s'.row.width k ≡ pos 0) (lt : s.row.column < length q.columns.now) (begins : s'.row.first ≤ s'.row.column) where
+    (zero : (k : ℕ) → k < count → num s'.row.width k ≡ pos 0) (lt : s.row.column < length (columns_in q.columns.now)) (begins : s'.row.first ≤ s'.row.column) where
   new : EntryRecord E
   new = record { first = s.row.first; last = s.row.column; count = n; width = w }
 
@@ -248,16 +249,16 @@ module _ {E : Type 0} (count : ℕ) (num : E → ℕ → ℤ) (wide : Item → �
       (λ ne. subst (λ (z : EntryRecord E). Within 1073741823 (num z.width k)) (sym (get_or-set_other es me t new d ne)) (sound.sized-done o k t d kc (omega arith)))
       (cases_eq t me))
 
-  lies_more : (t : ℕ) (d : EntryRecord E) → t < s'.marks.entries → Lies (length q.columns.now) (get_or m'.entries.now t d)
+  lies_more : (t : ℕ) (d : EntryRecord E) → t < s'.marks.entries → Lies (length (columns_in q.columns.now)) (get_or m'.entries.now t d)
   unfolding new
   lies_more t d h =
       let es = m.entries.now in
       let me = s.marks.entries in
       let o = begun-open s.stage b in
-      subst (λ (z : List (EntryRecord E)). Lies (length q.columns.now) (get_or z t d)) (sym ee)
+      subst (λ (z : List (EntryRecord E)). Lies (length (columns_in q.columns.now)) (get_or z t d)) (sym ee)
       (⊎_elim
-      (λ same. subst (Lies (length q.columns.now)) (sym (ap (λ (i : ℕ). get_or (set es me new) i d) same ∙ get_or-set_same es me new d he)) (sound.begins o, lt))
-      (λ ne. subst (Lies (length q.columns.now)) (sym (get_or-set_other es me t new d ne)) (sound.lies-done o t d (omega arith)))
+      (λ same. subst (Lies (length (columns_in q.columns.now))) (sym (ap (λ (i : ℕ). get_or (set es me new) i d) same ∙ get_or-set_same es me new d he)) (sound.begins o, lt))
+      (λ ne. subst (Lies (length (columns_in q.columns.now))) (sym (get_or-set_other es me t new d ne)) (sound.lies-done o t d (omega arith)))
       (cases_eq t me))
 
   pub tab_sound : Sound count num wide q s' m'

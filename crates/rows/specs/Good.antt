@@ -1,5 +1,5 @@
--- What always holds of a table: its marks fit its memory, and the room for what is owed is kept.
-use Rattle.std.specs.Prelude.{◌≡◌, ℕ, ◌+◌, ◌<◌, ◌≤◌, min, Bool, true, false, List, [], map, length, take, Some, None, Option, slice_index_or}
+-- What always holds of rows.
+use Rattle.std.specs.Prelude.{◌≡◌, ℕ, ◌+◌, ◌<◌, ◌≤◌, min, Bool, true, false, List, [], map, length, Some, None, Option, if◌then◌else◌, ◌==◌}
 use Rattle.ledger.specs.declared.records.ItemRecord.{ItemRecord}
 use Rattle.rows.specs.declared.state.Marks.{Marks}
 use Rattle.ledger.specs.Ledger.{OpenRow, Ledger}
@@ -9,15 +9,13 @@ use Rattle.rows.specs.declared.state.Memory.{Memory}
 use Rattle.rows.specs.declared.state.State.{State}
 use Rattle.rows.specs.declared.state.Stage.{Stage}
 use Rattle.rows.specs.declared.state.Stage.TheVariants.{Closed, Fresh, Begun, Omitted}
+use Rattle.rows.specs.declared.state.Cell.{Cell}
+use Rattle.rows.specs.declared.state.Cell.TheVariants as cell
 use Rattle.ledger.specs.declared.records.Column.{Column}
 use Rattle.rows.specs.declared.preamble.Preamble.{Preamble}
-use Rattle.ledger.specs.Chunks.{total}
-use Rattle.rows.specs.Held.{Fit, counted, rowed, part, Held, held_of}
-use Rattle.ledger.specs.Items.{taken, u_in, v_in, template_in}
-
--- the column at a place
-abbrev pub column_at : List Column → ℕ → Column
-column_at cs c = slice_index_or cs c (record { from = 0; u = 0; v = 0 })
+use Rattle.rows.specs.Columns.{columns_in, column_at}
+use Rattle.rows.specs.Held.{Fit, Held, held_of}
+use Rattle.ledger.specs.Items.{u_in, v_in, template_in}
 
 -- one for a row in hand
 abbrev pub one : Stage → ℕ
@@ -33,45 +31,14 @@ owed Fresh c = c.u + c.v
 owed Begun c = c.v
 owed Omitted c = 0
 
+-- the marks fit the memory, and the room for what is owed is kept
 pub record Good {E : Type 0} (s : State E) (m : Memory E) (q : Preamble E) : Type 0 where
   pub fit : Fit s m
-  pub column : s.row.column + one s.stage ≤ length q.columns.now
-  pub items : s.marks.items + owed s.stage (column_at q.columns.now s.row.column) ≤ min 16384 (length m.items.now)
+  pub column : s.row.column + one s.stage ≤ length (columns_in q.columns.now)
+  pub items : s.marks.items + owed s.stage (column_at (columns_in q.columns.now) s.row.column) ≤ min 16384 (length m.items.now)
   pub entries : s.marks.entries + one s.stage ≤ min 8192 (length m.entries.now)
   pub lines : s.lines + one s.stage ≤ min 1024 (length m.lines.now)
   pub text : s.marks.text ≤ min 65535 (length m.text.now)
-  pub some : 1 ≤ length q.columns.now
-  pub widths : length q.widths.now ≡ length q.columns.now
-  pub pieces : total taken q.pieces.now ≡ 0
-  pub parts : (c : ℕ) → c < length q.columns.now → ((column_at q.columns.now c).from + ((column_at q.columns.now c).u + (column_at q.columns.now c).v)) ≤ length q.pieces.now
-  pub few : (c : ℕ) → ((column_at q.columns.now c).u ≤ 64) × ((column_at q.columns.now c).v ≤ 64)
-
--- the same as a product, for the table's ghost field
-abbrev pub Sane : {E : Type 0} → State E → Memory E → Preamble E → Type 0
-Sane s m q =
-    ((s.lines ≤ length m.lines.now)
-    × (s.marks.items ≤ length m.items.now)
-    × (s.marks.entries ≤ length m.entries.now)
-    × (s.marks.text ≤ length m.text.now))
-    × ((s.laid.items ≤ s.row.begin)
-    × (s.row.begin ≤ s.marks.items)
-    × (s.laid.entries ≤ s.marks.entries)
-    × (s.laid.text ≤ s.marks.text))
-    × ((total rowed (take s.lines m.lines.now) ≡ s.laid.entries)
-    × (total counted (take s.laid.entries m.entries.now) ≡ s.laid.items)
-    × (total taken (take s.laid.items m.items.now) ≡ s.laid.text)
-    × (s.laid.items + total counted (part s.laid.entries s.marks.entries m.entries.now) ≡ s.row.begin)
-    × (s.laid.text + total taken (part s.laid.items s.marks.items m.items.now) ≡ s.marks.text))
-    × ((s.row.column + one s.stage ≤ length q.columns.now)
-    × (s.marks.items + owed s.stage (column_at q.columns.now s.row.column) ≤ min 16384 (length m.items.now))
-    × (s.marks.entries + one s.stage ≤ min 8192 (length m.entries.now))
-    × (s.lines + one s.stage ≤ min 1024 (length m.lines.now))
-    × (s.marks.text ≤ min 65535 (length m.text.now)))
-    × ((1 ≤ length q.columns.now)
-    × (length q.widths.now ≡ length q.columns.now)
-    × (total taken q.pieces.now ≡ 0)
-    × ((c : ℕ) → c < length q.columns.now → ((column_at q.columns.now c).from + ((column_at q.columns.now c).u + (column_at q.columns.now c).v)) ≤ length q.pieces.now)
-    × ((c : ℕ) → ((column_at q.columns.now c).u ≤ 64) × ((column_at q.columns.now c).v ≤ 64)))
 
 -- the room that the host's memory gives
 abbrev pub room_in : {E : Type 0} → Memory E → Room
@@ -88,7 +55,7 @@ abbrev pub template_of : {E : Type 0} → Preamble E → Column → Template
 template_of q c = template_in q.text.now q.pieces.now c
 
 abbrev pub templates_of : {E : Type 0} → Preamble E → List Template
-templates_of q = map (template_of q) q.columns.now
+templates_of q = map (template_of q) (columns_in q.columns.now)
 
 -- the ledger that a table stands for
 abbrev pub hand_by : Stage → ℕ → ℕ → Held → Option OpenRow
@@ -172,10 +139,15 @@ begun_in Fresh = false
 begun_in Begun = true
 begun_in Omitted = true
 
+-- a cell is the one in hand
+abbrev pub holding : Stage → ℕ → Cell → Bool
+holding st c (cell.Fresh d) = if fresh_in st then (c == d) else false
+holding st c (cell.Begun d) = if begun_in st then (c == d) else false
+
 abbrev pub v_of : {E : Type 0} → Preamble E → Stage → ℕ → List ItemRecord
 v_of q Closed c = []
 v_of q Fresh c = []
-v_of q Begun c = v_pieces q (column_at q.columns.now c)
+v_of q Begun c = v_pieces q (column_at (columns_in q.columns.now) c)
 v_of q Omitted c = []
 
 abbrev pub omitted_in : Stage → Bool
@@ -200,6 +172,6 @@ pub record Finished {E : Type 0} (q : Preamble E) (s s' : State E) : Type 0 wher
 pub record Goes {E : Type 0} (x : ℕ) (s : State E) (m : Memory E) (q : Preamble E) (c : ℕ) : Type 0 where
   pub begun : begun_in s.stage ≡ true
   pub same : s.row.column ≡ c
-  pub next : s.row.column + 1 < length q.columns.now
-  pub items : s.marks.items + owed s.stage (column_at q.columns.now s.row.column) + ((column_at q.columns.now (s.row.column + 1)).u + (column_at q.columns.now (s.row.column + 1)).v) ≤ min 16384 (length m.items.now)
+  pub next : s.row.column + 1 < length (columns_in q.columns.now)
+  pub items : s.marks.items + owed s.stage (column_at (columns_in q.columns.now) s.row.column) + ((column_at (columns_in q.columns.now) (s.row.column + 1)).u + (column_at (columns_in q.columns.now) (s.row.column + 1)).v) ≤ min 16384 (length m.items.now)
   pub entries : s.marks.entries + 1 + x ≤ min 8192 (length m.entries.now)

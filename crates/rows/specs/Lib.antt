@@ -1,3 +1,6 @@
+pub mod Columns
 pub mod Held
 pub mod Good
 pub mod Sound
+pub mod Answers
+pub mod Views

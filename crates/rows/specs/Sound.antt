@@ -6,6 +6,7 @@ use Rattle.ledger.specs.declared.records.Owed.{Owed}
 use Rattle.ledger.specs.Ledger.{Item}
 use Rattle.ledger.specs.Calls.{template_at, laid_entries, done_of}
 use Rattle.ledger.specs.Naturals.{natural, natural_by, owed_of, items_now}
+use Rattle.rows.specs.Columns.{columns_in, widths_in}
 use Rattle.rows.specs.declared.state.EntryRecord.{EntryRecord}
 use Rattle.rows.specs.declared.state.Memory.{Memory}
 use Rattle.rows.specs.declared.state.State.{State}
@@ -29,8 +30,8 @@ Lies n e = (e.first ≤ e.last) × (e.last < n)
 pub record Sound {E : Type 0} (count : ℕ) (num : E → ℕ → ℤ) (wide : Item → ℕ → ℤ) (q : Preamble E) (s : State E) (m : Memory E) : Type 0 where
   pub row : open_in s.stage ≡ true → (k : ℕ) → k < count → num s.row.width k ≡ natural wide (items_now (ledger_of q s m).hand) k
   pub near : open_in s.stage ≡ true → (k : ℕ) → k < count → Within 1073741823 (natural wide (items_now (ledger_of q s m).hand) k +ℤ natural wide (owed_of (templates_of q) (ledger_of q s m).hand) k)
-  pub us : (c k : ℕ) (d : Owed E) → k < count → c < length q.columns.now → num (get_or q.widths.now c d).u k ≡ natural wide (template_at (templates_of q) c).u k
-  pub vs : (c k : ℕ) (d : Owed E) → k < count → c < length q.columns.now → num (get_or q.widths.now c d).v k ≡ natural wide (template_at (templates_of q) c).v k
+  pub us : (c k : ℕ) (d : Owed E) → k < count → c < length (columns_in q.columns.now) → num (get_or (widths_in q.columns.now) c d).u k ≡ natural wide (template_at (templates_of q) c).u k
+  pub vs : (c k : ℕ) (d : Owed E) → k < count → c < length (columns_in q.columns.now) → num (get_or (widths_in q.columns.now) c d).v k ≡ natural wide (template_at (templates_of q) c).v k
   pub small_u : (c k : ℕ) → k < count → Within 68719476736 (natural wide (template_at (templates_of q) c).u k)
   pub small_v : (c k : ℕ) → k < count → Within 68719476736 (natural wide (template_at (templates_of q) c).v k)
   pub laid : (k : ℕ) → k < count → map (stored_by num k) (take s.laid.entries m.entries.now) ≡ map (natural_by wide k) (laid_entries (ledger_of q s m))
@@ -38,6 +39,6 @@ pub record Sound {E : Type 0} (count : ℕ) (num : E → ℕ → ℤ) (wide : It
   pub sized : (k t : ℕ) (d : EntryRecord E) → k < count → t < s.laid.entries → Within 1073741823 (num (get_or m.entries.now t d).width k)
   pub sized-done : open_in s.stage ≡ true → (k t : ℕ) (d : EntryRecord E) → k < count → t < s.marks.entries → Within 1073741823 (num (get_or m.entries.now t d).width k)
   -- entries lie in the columns, and the one in hand begins before its cell
-  pub lies : (t : ℕ) (d : EntryRecord E) → t < s.laid.entries → Lies (length q.columns.now) (slice_index_or m.entries.now t d)
-  pub lies-done : open_in s.stage ≡ true → (t : ℕ) (d : EntryRecord E) → t < s.marks.entries → Lies (length q.columns.now) (slice_index_or m.entries.now t d)
+  pub lies : (t : ℕ) (d : EntryRecord E) → t < s.laid.entries → Lies (length (columns_in q.columns.now)) (slice_index_or m.entries.now t d)
+  pub lies-done : open_in s.stage ≡ true → (t : ℕ) (d : EntryRecord E) → t < s.marks.entries → Lies (length (columns_in q.columns.now)) (slice_index_or m.entries.now t d)
   pub begins : open_in s.stage ≡ true → s.row.first ≤ s.row.column

@@ -4,7 +4,8 @@ ghost use Rattle.rows.specs.Good.{moved, moved_on, ended, based, lined, back, le
 ghost use Rattle.rows.specs.Held.{over, held_of, Fit, pushed, closed, laid_down, emptied, ruled, rowed, line_of};
 ghost use Rattle.ledger.specs.Items.{meant, taken, decoded_items};
 
-use crate::state::{EntryRecord, LineRecord, Memory, State};
+use crate::draft::Draft;
+use crate::state::{EntryRecord, LineRecord};
 use ledger::records::ItemRecord;
 
 fn write<T: Copy>(all: &mut [T], place: usize, part: &[T])
@@ -14,124 +15,110 @@ fn write<T: Copy>(all: &mut [T], place: usize, part: &[T])
     all[place..place + part.len()].copy_from_slice(part);
 }
 
-fn store<T: Copy>(all: &mut [T], at: usize, it: T)
-    requires { at < length all.old }
-    ensures { all.new ≡ set all.old at it }
-{
-    all[at] = it;
-}
+impl<'a, E: Copy> Draft<'a, E> {
+    /// One more item, with the bytes of its word.
+    pub(crate) fn add_item(&mut self, it: ItemRecord, word: &[u8])
+        requires fit { Fit self.old.state self.old.memory }
+        requires items { self.old.state.marks.items < length self.old.memory.items.now }
+        requires text { self.old.state.marks.text + length word.now ≤ length self.old.memory.text.now }
+        requires bytes { taken it ≡ length word.now }
+        ensures held { (p : List ℕ) → held_of p self.new.state self.new.memory ≡ pushed (held_of p self.old.state self.old.memory) (meant p it word.now ∷ []) }
+        ensures fit { Fit self.new.state self.new.memory }
+        ensures state { self.new.state ≡ moved self.old.state 1 (length word.now) }
+        ensures lens { lens_of self.new.memory ≡ lens_of self.old.memory }
+        ensures entries { self.new.memory.entries.now ≡ self.old.memory.entries.now }
+    {
+        let at = self.state.marks.items;
+        let place = self.state.marks.text;
+        write(self.memory.text, place, word);
+        self.memory.items[at] = it;
+        self.state.marks.items = at + 1;
+        self.state.marks.text = place + word.len();
+    }
 
-/// One more item, with the bytes of its word.
-pub(crate) fn add_item<E: Copy>(
-    state: &mut State<E>,
-    memory: &mut Memory<E>,
-    it: ItemRecord,
-    word: &[u8],
-)
-    requires fit { Fit state.old memory.old }
-    requires items { state.old.marks.items < length memory.old.items.now }
-    requires text { state.old.marks.text + length word.now ≤ length memory.old.text.now }
-    requires bytes { taken it ≡ length word.now }
-    ensures held { (p : List ℕ) → held_of p state.new memory.new ≡ pushed (held_of p state.old memory.old) (meant p it word.now ∷ []) }
-    ensures fit { Fit state.new memory.new }
-    ensures state { state.new ≡ moved state.old 1 (length word.now) }
-    ensures lens { lens_of memory.new ≡ lens_of memory.old }
-    ensures entries { memory.new.entries.now ≡ memory.old.entries.now }
-{
-    let at = state.marks.items;
-    let place = state.marks.text;
-    write(memory.text, place, word);
-    store(memory.items, at, it);
-    state.marks.items = at + 1;
-    state.marks.text = place + word.len();
-}
+    /// More items, of a template.
+    pub(crate) fn add_part(&mut self, pieces: &[ItemRecord])
+        requires fit { Fit self.old.state self.old.memory }
+        requires items { self.old.state.marks.items + length pieces.now ≤ length self.old.memory.items.now }
+        requires bytes { total taken pieces.now ≡ 0 }
+        ensures held { (p : List ℕ) → held_of p self.new.state self.new.memory ≡ pushed (held_of p self.old.state self.old.memory) (decoded_items p pieces.now []) }
+        ensures fit { Fit self.new.state self.new.memory }
+        ensures state { self.new.state ≡ moved_on self.old.state (length pieces.now) }
+        ensures lens { lens_of self.new.memory ≡ lens_of self.old.memory }
+        ensures entries { self.new.memory.entries.now ≡ self.old.memory.entries.now }
+    {
+        let at = self.state.marks.items;
+        write(self.memory.items, at, pieces);
+        self.state.marks.items = at + pieces.len();
+    }
 
-/// More items, of a template.
-pub(crate) fn add_part<E: Copy>(state: &mut State<E>, memory: &mut Memory<E>, pieces: &[ItemRecord])
-    requires fit { Fit state.old memory.old }
-    requires items { state.old.marks.items + length pieces.now ≤ length memory.old.items.now }
-    requires bytes { total taken pieces.now ≡ 0 }
-    ensures held { (p : List ℕ) → held_of p state.new memory.new ≡ pushed (held_of p state.old memory.old) (decoded_items p pieces.now []) }
-    ensures fit { Fit state.new memory.new }
-    ensures state { state.new ≡ moved_on state.old (length pieces.now) }
-    ensures lens { lens_of memory.new ≡ lens_of memory.old }
-    ensures entries { memory.new.entries.now ≡ memory.old.entries.now }
-{
-    let at = state.marks.items;
-    write(memory.items, at, pieces);
-    state.marks.items = at + pieces.len();
-}
-
-/// The items so far become an entry.
-pub(crate) fn end_entry<E: Copy>(state: &mut State<E>, memory: &mut Memory<E>, last: usize)
-    requires fit { Fit state.old memory.old }
-    requires entries { state.old.marks.entries < length memory.old.entries.now }
-    ensures held { (p : List ℕ) → held_of p state.new memory.new ≡ closed (held_of p state.old memory.old) state.old.row.first last }
-    ensures fit { Fit state.new memory.new }
-    ensures state { state.new ≡ ended state.old }
-    ensures lens { lens_of memory.new ≡ lens_of memory.old }
-    ensures entries { memory.new.entries.now ≡ set memory.old.entries.now state.old.marks.entries (record { first = state.old.row.first; last = last; count = state.old.marks.items - state.old.row.begin; width = state.old.row.width }) }
-{
-    let at = state.marks.entries;
-    let row = state.row;
-    let count = state.marks.items - row.begin;
-    store(
-        memory.entries,
-        at,
-        EntryRecord {
+    /// The items so far become an entry.
+    pub(crate) fn end_entry(&mut self, last: usize)
+        requires fit { Fit self.old.state self.old.memory }
+        requires entries { self.old.state.marks.entries < length self.old.memory.entries.now }
+        ensures held { (p : List ℕ) → held_of p self.new.state self.new.memory ≡ closed (held_of p self.old.state self.old.memory) self.old.state.row.first last }
+        ensures fit { Fit self.new.state self.new.memory }
+        ensures state { self.new.state ≡ ended self.old.state }
+        ensures lens { lens_of self.new.memory ≡ lens_of self.old.memory }
+        ensures entries { self.new.memory.entries.now ≡ set self.old.memory.entries.now self.old.state.marks.entries (record { first = self.old.state.row.first; last = last; count = self.old.state.marks.items - self.old.state.row.begin; width = self.old.state.row.width }) }
+    {
+        let at = self.state.marks.entries;
+        let row = self.state.row;
+        let count = self.state.marks.items - row.begin;
+        self.memory.entries[at] = EntryRecord {
             first: row.first,
             last,
             count,
             width: row.width,
-        },
-    );
-    state.marks.entries = at + 1;
-    state.row.begin = state.marks.items;
-}
+        };
+        self.state.marks.entries = at + 1;
+        self.state.row.begin = self.state.marks.items;
+    }
 
-/// The entries so far become a row.
-pub(crate) fn end_row<E: Copy>(state: &mut State<E>, memory: &mut Memory<E>)
-    requires fit { Fit state.old memory.old }
-    requires lines { state.old.lines < length memory.old.lines.now }
-    requires begin { state.old.row.begin ≡ state.old.marks.items }
-    ensures held { (p : List ℕ) → held_of p state.new memory.new ≡ laid_down (held_of p state.old memory.old) }
-    ensures fit { Fit state.new memory.new }
-    ensures state { state.new ≡ based state.old }
-    ensures lens { lens_of memory.new ≡ lens_of memory.old }
-    ensures entries { memory.new.entries.now ≡ memory.old.entries.now }
-{
-    let n = state.lines;
-    let count = state.marks.entries - state.laid.entries;
-    store(memory.lines, n, LineRecord::Row(count));
-    state.lines = n + 1;
-    state.laid = state.marks;
-}
+    /// The entries so far become a row.
+    pub(crate) fn end_row(&mut self)
+        requires fit { Fit self.old.state self.old.memory }
+        requires lines { self.old.state.lines < length self.old.memory.lines.now }
+        requires begin { self.old.state.row.begin ≡ self.old.state.marks.items }
+        ensures held { (p : List ℕ) → held_of p self.new.state self.new.memory ≡ laid_down (held_of p self.old.state self.old.memory) }
+        ensures fit { Fit self.new.state self.new.memory }
+        ensures state { self.new.state ≡ based self.old.state }
+        ensures lens { lens_of self.new.memory ≡ lens_of self.old.memory }
+        ensures entries { self.new.memory.entries.now ≡ self.old.memory.entries.now }
+    {
+        let n = self.state.lines;
+        let count = self.state.marks.entries - self.state.laid.entries;
+        self.memory.lines[n] = LineRecord::Row(count);
+        self.state.lines = n + 1;
+        self.state.laid = self.state.marks;
+    }
 
-/// A line without entries.
-pub(crate) fn add_bare<E: Copy>(state: &mut State<E>, memory: &mut Memory<E>, line: LineRecord)
-    requires fit { Fit state.old memory.old }
-    requires lines { state.old.lines < length memory.old.lines.now }
-    requires bare { rowed line ≡ 0 }
-    ensures held { (p : List ℕ) → held_of p state.new memory.new ≡ ruled (held_of p state.old memory.old) (line_of line []) }
-    ensures fit { Fit state.new memory.new }
-    ensures state { state.new ≡ lined state.old }
-    ensures lens { lens_of memory.new ≡ lens_of memory.old }
-    ensures entries { memory.new.entries.now ≡ memory.old.entries.now }
-{
-    let n = state.lines;
-    store(memory.lines, n, line);
-    state.lines = n + 1;
-}
+    /// A line without entries.
+    pub(crate) fn add_bare(&mut self, line: LineRecord)
+        requires fit { Fit self.old.state self.old.memory }
+        requires lines { self.old.state.lines < length self.old.memory.lines.now }
+        requires bare { rowed line ≡ 0 }
+        ensures held { (p : List ℕ) → held_of p self.new.state self.new.memory ≡ ruled (held_of p self.old.state self.old.memory) (line_of line []) }
+        ensures fit { Fit self.new.state self.new.memory }
+        ensures state { self.new.state ≡ lined self.old.state }
+        ensures lens { lens_of self.new.memory ≡ lens_of self.old.memory }
+        ensures entries { self.new.memory.entries.now ≡ self.old.memory.entries.now }
+    {
+        let n = self.state.lines;
+        self.memory.lines[n] = line;
+        self.state.lines = n + 1;
+    }
 
-/// Back to what is laid.
-pub(crate) fn go_back<E: Copy>(state: &mut State<E>, memory: &mut Memory<E>)
-    requires fit { Fit state.old memory.old }
-    ensures held { (p : List ℕ) → held_of p state.new memory.new ≡ emptied (held_of p state.old memory.old) }
-    ensures fit { Fit state.new memory.new }
-    ensures state { state.new ≡ back state.old }
-    ensures lens { lens_of memory.new ≡ lens_of memory.old }
-    ensures entries { memory.new.entries.now ≡ memory.old.entries.now }
-{
-    state.marks = state.laid;
-    state.row.begin = state.laid.items;
+    /// Back to what is laid.
+    pub(crate) fn go_back(&mut self)
+        requires fit { Fit self.old.state self.old.memory }
+        ensures held { (p : List ℕ) → held_of p self.new.state self.new.memory ≡ emptied (held_of p self.old.state self.old.memory) }
+        ensures fit { Fit self.new.state self.new.memory }
+        ensures state { self.new.state ≡ back self.old.state }
+        ensures lens { lens_of self.new.memory ≡ lens_of self.old.memory }
+        ensures entries { self.new.memory.entries.now ≡ self.old.memory.entries.now }
+    {
+        self.state.marks = self.state.laid;
+        self.state.row.begin = self.state.laid.items;
+    }
 }

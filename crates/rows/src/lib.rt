@@ -1,11 +1,17 @@
 //! Rows in lent memory: what lies below the fill marks, and the calls that move them.
 #![tactic(auto)]
 
-pub mod acts;
-pub mod asks;
-pub mod begin;
-pub mod calls;
+mod acts;
+mod asks;
+mod begin;
+mod calls;
+mod columns;
+pub mod draft;
+mod parts;
 pub mod preamble;
-mod refusals;
+mod puts;
+mod room;
+pub mod rows;
 pub mod spanned;
+mod stages;
 pub mod state;

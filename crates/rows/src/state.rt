@@ -17,6 +17,7 @@ pub enum LineRecord {
     Gap(i64),
 }
 
+/// How far the lent memory is used.
 #[derive(Clone, Copy)]
 pub struct Marks {
     pub items: usize,
@@ -24,6 +25,7 @@ pub struct Marks {
     pub text: usize,
 }
 
+/// The memory that the host lends.
 #[derive(Drop)]
 pub struct Memory<'a, E> {
     pub items: &'a mut [ItemRecord],
@@ -32,7 +34,8 @@ pub struct Memory<'a, E> {
     pub text: &'a mut [u8],
 }
 
-#[derive(Clone, Copy)]
+/// How far the cell in hand is, if there is one.
+#[derive(Clone, Copy, PartialEq, Eq, Debug)]
 pub enum Stage {
     Closed,
     Fresh,
@@ -49,7 +52,8 @@ pub struct Row<E> {
     pub width: E,
 }
 
-/// What is laid lies below `laid`, the row in hand between `laid` and `marks`.
+/// What is laid lies below `laid`, the row in hand between `laid` and `marks`: marks in lent memory, since the device has
+/// no heap. The row in hand stands beside the stage: each step on it runs only where there is one, and would open an `Option`.
 #[derive(Clone, Copy)]
 pub struct State<E> {
     pub lines: usize,
@@ -57,4 +61,11 @@ pub struct State<E> {
     pub marks: Marks,
     pub stage: Stage,
     pub row: Row<E>,
+}
+
+/// A cell as its row knows it: the column, and whether it is begun.
+#[derive(Clone, Copy, PartialEq, Eq, Debug)]
+pub enum Cell {
+    Fresh(usize),
+    Begun(usize),
 }

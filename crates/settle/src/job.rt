@@ -1,93 +1,69 @@
-use std::alloc::{AllocError, AllocFailed, Global};
-use std::fmt;
+ghost use Rattle.std.specs.Prelude.{IfOk, IsTrue};
+ghost use Rattle.std.specs.Range.Bound.{bounds_contain};
+
+use crate::stop::Wrong;
+use extent::{Plain, Twin};
+use std::alloc::Global;
+use std::ops::RangeBounds;
+use widths::Entry;
 
 // The largest size of a natural width and of a gap, in scaled points.
 const WIDEST: i64 = 1_073_741_823;
 
 const WIDEST_GAP: i64 = 16_777_215;
 
-// What is wrong with a line.
-#[derive(Clone, Copy, PartialEq, Eq, Debug)]
-pub enum Wrong {
-    UnknownWord,
-    NumberOfWords,
-    NotANumber,
-    NoColumns,
-    ColumnsTwice,
-    ColumnsRange,
-    SidesRange,
-    SidesLate,
-    NoSuchGap,
-    GapRange,
-    NoSuchSpan,
-    WidthRange,
-    NoMemory,
+// The entries, with the sides of the table in their type.
+#[derive(Drop)]
+pub enum Entries {
+    Strip(Vec<Entry<Plain>>),
+    StripAndWindow(Vec<Entry<Twin>>),
 }
 
-impl From<AllocError> for Wrong {
-    fn from(_e: AllocError) -> Wrong {
-        Wrong::NoMemory
+impl Entries {
+    // No entries yet, with 1 side or 2.
+    fn of_sides(heap: Global, sides: i64) -> Option<Entries> {
+        match sides {
+            1 => Some(Entries::Strip(Vec::new(heap))),
+            2 => Some(Entries::StripAndWindow(Vec::new(heap))),
+            _ => None,
+        }
     }
-}
 
-impl<T: Drop> From<AllocFailed<T>> for Wrong {
-    fn from(_e: AllocFailed<T>) -> Wrong {
-        Wrong::NoMemory
-    }
-}
-
-impl fmt::Display for Wrong {
-    fn fmt<W: fmt::Write>(&self, f: &mut fmt::Formatter<W>) -> fmt::Result {
-        match *self {
-            Wrong::UnknownWord => write!(
-                f,
-                "unknown word; known are columns, sides, gap and entry"
-            ),
-            Wrong::NumberOfWords => write!(f, "too few or too many words"),
-            Wrong::NotANumber => write!(f, "not a whole number"),
-            Wrong::NoColumns => write!(f, "columns must come first"),
-            Wrong::ColumnsTwice => write!(f, "columns are given already"),
-            Wrong::ColumnsRange => write!(f, "columns are 1 to 32"),
-            Wrong::SidesRange => write!(f, "sides are 1 or 2"),
-            Wrong::SidesLate => write!(f, "sides must come before the entries"),
-            Wrong::NoSuchGap => write!(f, "gaps are 0 to the number of columns"),
-            Wrong::GapRange => write!(f, "a gap lies within 16777215 of zero"),
-            Wrong::NoSuchSpan => write!(
-                f,
-                "an entry goes from a column to the same or a later one of the table"
-            ),
-            Wrong::WidthRange => write!(f, "a width lies within 1073741823 of zero"),
-            Wrong::NoMemory => write!(f, "out of memory"),
+    fn is_empty(&self) -> bool {
+        match self {
+            Entries::Strip(entries) => entries.is_empty(),
+            Entries::StripAndWindow(entries) => entries.is_empty(),
         }
     }
 }
 
-// An entry over the columns first to last, counted from 1, with a width for each side.
-#[derive(Clone, Copy)]
-pub struct Row {
-    pub first: usize,
-    pub last: usize,
-    pub strip: i64,
-    pub window: i64,
-}
-
-// What is to be settled. There are no columns before the line that says how many.
+// What is to be settled: the starting gap and then the gap after each column, and the entries.
 #[derive(Drop)]
 pub struct Job {
-    pub columns: usize,
-    pub sides: usize,
     pub gaps: Vec<i64>,
-    pub rows: Vec<Row>,
+    pub entries: Entries,
 }
 
-impl Job {
-    pub(crate) fn new(heap: Global) -> Job {
-        Job {
-            columns: 0,
-            sides: 1,
-            gaps: Vec::new(heap),
-            rows: Vec::new(heap),
+// What is read of a job so far. The gaps are there from the line on that gives the columns.
+#[derive(Drop)]
+pub struct Draft {
+    gaps: Option<Vec<i64>>,
+    entries: Entries,
+}
+
+impl Draft {
+    pub(crate) fn new(heap: Global) -> Draft {
+        Draft {
+            gaps: None,
+            entries: Entries::Strip(Vec::new(heap)),
         }
+    }
+
+    // The whole job, where the lines have given the columns.
+    pub(crate) fn finish(self) -> Result<Job, Wrong> {
+        let Draft { gaps, entries } = self;
+        let gaps = gaps.ok_or(Wrong::NoColumns)?;
+        Ok(Job { gaps, entries })
     }
 
     // Takes one line of the input. Blank lines and those that begin with `;` are passed over.
@@ -96,112 +72,91 @@ impl Job {
             return Ok(());
         }
         let words: Vec<&str> = line.split_whitespace().collect(heap)?;
-        let Some(word) = words.first() else {
-            return Ok(());
-        };
-        match *word {
-            "columns" => self.read_columns(words.as_slice()),
-            "sides" => self.read_sides(words.as_slice()),
-            "gap" => self.read_gap(words.as_slice()),
-            "entry" => self.read_entry(words.as_slice()),
+        match words.as_slice() {
+            [] => Ok(()),
+            ["columns", count] => self.read_columns(heap, count),
+            ["sides", count] => self.read_sides(heap, count),
+            ["gap", at, length] => self.read_gap(at, length),
+            ["entry", first, last, widths @ ..] => self.read_entry(first, last, widths),
+            ["columns" | "sides" | "gap" | "entry", ..] => Err(Wrong::NumberOfWords),
             _ => Err(Wrong::UnknownWord),
         }
     }
 
-    fn read_columns(&mut self, words: &[&str]) -> Result<(), Wrong> {
-        counted(words, 2)?;
-        let columns = place(words, 1, 1, 32, Wrong::ColumnsRange)?;
-        if self.columns != 0 {
+    fn read_columns(&mut self, heap: Global, count: &str) -> Result<(), Wrong> {
+        let columns: usize = within(count, 1..=32, Wrong::ColumnsRange)?;
+        if self.gaps.is_some() {
             return Err(Wrong::ColumnsTwice);
         }
-        self.columns = columns;
-        self.gaps.push(0)?;
-        for _ in 0..columns {
-            self.gaps.push(0)?;
-        }
+        self.gaps = Some(vec![in heap; 0; columns + 1]?);
         Ok(())
     }
 
-    fn read_sides(&mut self, words: &[&str]) -> Result<(), Wrong> {
-        counted(words, 2)?;
-        let sides = place(words, 1, 1, 2, Wrong::SidesRange)?;
-        if !self.rows.is_empty() {
+    fn read_sides(&mut self, heap: Global, count: &str) -> Result<(), Wrong> {
+        let entries = Entries::of_sides(heap, number(count)?).ok_or(Wrong::SidesRange)?;
+        if !self.entries.is_empty() {
             return Err(Wrong::SidesLate);
         }
-        self.sides = sides;
+        self.entries = entries;
         Ok(())
     }
 
-    fn read_gap(&mut self, words: &[&str]) -> Result<(), Wrong> {
-        counted(words, 3)?;
-        if self.columns == 0 {
-            return Err(Wrong::NoColumns);
-        }
-        let at = place(words, 1, 0, self.columns, Wrong::NoSuchGap)?;
-        let length = ranged(words, 2, WIDEST_GAP, Wrong::GapRange)?;
-        match self.gaps.get_mut(at) {
-            Some(gap) => {
-                *gap = length;
-                Ok(())
+    fn read_gap(&mut self, at: &str, length: &str) -> Result<(), Wrong> {
+        let gaps = self.gaps.as_mut().ok_or(Wrong::NoColumns)?;
+        let at = within(at, 0..gaps.len(), Wrong::NoSuchGap)?;
+        gaps[at] = within(length, -WIDEST_GAP..=WIDEST_GAP, Wrong::GapRange)?;
+        Ok(())
+    }
+
+    fn read_entry(&mut self, first: &str, last: &str, widths: &[&str]) -> Result<(), Wrong> {
+        match (&mut self.entries, widths) {
+            (Entries::Strip(entries), [strip]) => {
+                let (first, last) = span(self.gaps.as_ref(), first, last)?;
+                let strip = natural(strip)?;
+                let width = Plain { strip };
+                entries.push(Entry { first, last, width })?;
             }
-            None => Err(Wrong::NoSuchGap),
+            (Entries::StripAndWindow(entries), [strip, window]) => {
+                let (first, last) = span(self.gaps.as_ref(), first, last)?;
+                let strip = natural(strip)?;
+                let window = natural(window)?;
+                let width = Twin { strip, window };
+                entries.push(Entry { first, last, width })?;
+            }
+            _ => return Err(Wrong::NumberOfWords),
         }
-    }
-
-    fn read_entry(&mut self, words: &[&str]) -> Result<(), Wrong> {
-        counted(words, if self.sides == 2 { 5 } else { 4 })?;
-        if self.columns == 0 {
-            return Err(Wrong::NoColumns);
-        }
-        let first = place(words, 1, 1, self.columns, Wrong::NoSuchSpan)?;
-        let last = place(words, 2, first, self.columns, Wrong::NoSuchSpan)?;
-        let strip = ranged(words, 3, WIDEST, Wrong::WidthRange)?;
-        let window = if self.sides == 2 {
-            ranged(words, 4, WIDEST, Wrong::WidthRange)?
-        } else {
-            0
-        };
-        self.rows.push(Row {
-            first,
-            last,
-            strip,
-            window,
-        })?;
         Ok(())
     }
 }
 
-fn counted(words: &[&str], count: usize) -> Result<(), Wrong> {
-    if words.len() == count {
-        Ok(())
+// A run of columns, which lines count from 1.
+fn span(gaps: Option<&Vec<i64>>, first: &str, last: &str) -> Result<(usize, usize), Wrong> {
+    let gaps = gaps.ok_or(Wrong::NoColumns)?;
+    let first = within(first, 1..gaps.len(), Wrong::NoSuchSpan)?;
+    let last = within(last, first..gaps.len(), Wrong::NoSuchSpan)?;
+    Ok((first - 1, last - 1))
+}
+
+// A natural width on one side.
+fn natural(word: &str) -> Result<i64, Wrong> {
+    within(word, -WIDEST..=WIDEST, Wrong::WidthRange)
+}
+
+fn number(word: &str) -> Result<i64, Wrong> {
+    word.parse().map_err(|_| Wrong::NotANumber)
+}
+
+// A number within a range.
+fn within<T, R>(word: &str, range: R, wrong: Wrong) -> Result<T, Wrong>
+where
+    T: TryFrom<i64, Error: Drop> + PartialOrd + Drop,
+    R: RangeBounds<T>,
+    ensures { IfOk result (λ n. R.has_bounds range → IsTrue (bounds_contain T.partial_cmp (R.start_bound range) (R.end_bound range) n)) }
+{
+    let n = T::try_from(number(word)?).map_err(|_| wrong)?;
+    if range.contains(&n) {
+        Ok(n)
     } else {
-        Err(Wrong::NumberOfWords)
+        Err(wrong)
     }
-}
-
-fn number(words: &[&str], at: usize) -> Result<i64, Wrong> {
-    let Some(word) = words.get(at) else {
-        return Err(Wrong::NumberOfWords);
-    };
-    match word.parse::<i64>() {
-        Ok(n) => Ok(n),
-        Err(_) => Err(Wrong::NotANumber),
-    }
-}
-
-// A number from low to high.
-fn place(words: &[&str], at: usize, low: usize, high: usize, wrong: Wrong) -> Result<usize, Wrong> {
-    match usize::try_from(number(words, at)?) {
-        Ok(n) if low <= n && n <= high => Ok(n),
-        _ => Err(wrong),
-    }
-}
-
-// A number of at most this size.
-fn ranged(words: &[&str], at: usize, size: i64, wrong: Wrong) -> Result<i64, Wrong> {
-    let n = number(words, at)?;
-    if n > size || n < size.wrapping_neg() {
-        return Err(wrong);
-    }
-    Ok(n)
 }

@@ -1,5 +1,6 @@
 -- A span table in lent memory, and its sides. Assumes nothing.
-use Rattle.std.specs.Prelude.{◌≡◌, ℕ, ◌+◌, ◌*◌, ◌<◌, ◌≤◌, List, [], ◌∷◌, get_or, ℤ, pos, None, Ok, Err, Option, Result, slice_index_or}
+use Rattle.std.specs.Prelude.{◌≡◌, ℕ, ◌+◌, ◌*◌, ◌<◌, ◌≤◌, List, [], ◌∷◌, map, get_or, ℤ, pos, None, Ok, Err, Option, Result, slice_index_or}
+use Rattle.std.proofs.lemmas.List.{map-id}
 use Rattle.widths.specs.declared.Entry.{Entry}
 use Rattle.widths.specs.Merging.{seen}
 use Rattle.widths.specs.Entries.{widest, on_side, Proper}
@@ -41,3 +42,7 @@ SizedOn num entered k gaps n ws = Sized (starting entered k gaps) (after entered
 -- side k of the entries and the gaps' lengths keep to a table's sizes
 abbrev pub TameOn : {E : Type 0} → (E → ℕ → ℤ) → ℕ → List (Entry E) → List ℤ → Type 0
 TameOn num k es gaps = Tame (on_side num k es) (slice_index_or gaps 0 (pos 0)) (λ j. get_or gaps (j + 1) (pos 0))
+
+-- entries stand for themselves: what is promised of records that stand for entries is promised of entries
+pub entries-themselves : {E : Type 0} (es : List (Entry E)) → map (λ e. e) es ≡ es
+entries-themselves es = map-id es

@@ -1,22 +1,23 @@
 ghost use Rattle.std.specs.Prelude.{◌≡◌, ℕ, ◌<◌, ◌≤◌, true, false, length, ℤ, is_ok, IfOk, slice_index_or};
 ghost use Rattle.widths.specs.Formula.{edge, natural};
 ghost use Rattle.spans.specs.Tables.{column, starting, after, SizedOn};
-ghost use Rattle.spans.specs.Refusals.{edges_fault, Refusing};
+ghost use Rattle.spans.specs.Refusals.{edges_fault, unless, Refusing};
 
-use crate::table::{Misfit, store};
+use crate::table::Misfit;
 use extent::Extent;
 use widths::{gap_counted, width_counted};
 
-fn edges_fault(columns: usize, widths: usize, gaps: usize, edges: usize) -> Option<Misfit>
-    ensures { result ≡ edges_fault columns widths gaps edges }
+// Refuses what are not 1 to 32 columns with a width, a gap and an edge for each, and the starting gap.
+fn check_edges(columns: usize, widths: usize, gaps: usize, edges: usize) -> Result<(), Misfit>
+    ensures { result ≡ unless (edges_fault columns widths gaps edges) tt }
 {
-    if columns < 1 || columns > 32 {
-        return Some(Misfit::Columns);
+    if !(1..=32).contains(&columns) {
+        return Err(Misfit::Columns);
     }
     if columns <= widths && columns < gaps && columns <= edges {
-        None
+        Ok(())
     } else {
-        Some(Misfit::Memory)
+        Err(Misfit::Memory)
     }
 }
 
@@ -30,11 +31,11 @@ fn place_edges<E: Extent>(columns: usize, gaps: &[i64], widths: &[Option<E>], ed
     ensures rest { (j : ℕ) (d : E) → columns ≤ j → slice_index_or edges.new j d ≡ slice_index_or edges.old j d }
 {
     let mut left = E::enter(gaps[0]);
-    for j in 0..columns {
-        let width = widths[j];
-        let right = left.sum(width_counted(width));
-        store(edges, j, right);
-        left = right.sum(gap_counted(width, E::enter(gaps[j + 1])));
+    // by index: of a zip with `iter_mut` it is known what each borrow writes, and not what the slice then holds
+    for (j, width) in widths[..columns].iter().enumerate() {
+        let right = left.sum(width_counted(*width));
+        edges[j] = right;
+        left = right.sum(gap_counted(*width, E::enter(gaps[j + 1])));
     }
     left
 }
@@ -54,8 +55,6 @@ pub fn natural_edges<E: Extent>(
     ensures rest { (j : ℕ) (d : E) → columns ≤ j → slice_index_or edges.new j d ≡ slice_index_or edges.old j d }
     ensures refused { is_ok result ≡ false → edges.new ≡ edges.old }
 {
-    match edges_fault(columns, widths.len(), gaps.len(), edges.len()) {
-        Some(misfit) => Err(misfit),
-        None => Ok(place_edges(columns, gaps, widths, edges)),
-    }
+    check_edges(columns, widths.len(), gaps.len(), edges.len())?;
+    Ok(place_edges(columns, gaps, widths, edges))
 }

@@ -3,6 +3,5 @@
 
 pub mod edges;
 pub mod merge;
-pub mod records;
 pub mod settle;
 pub mod table;

@@ -6,93 +6,84 @@ ghost use Rattle.widths.specs.Entries.{widest, on_side};
 ghost use Rattle.spans.specs.Tables.{cell, Tabled, column, after, SettledOn, TameOn};
 ghost use Rattle.spans.specs.Refusals.{row_fault, merge_fault, turn_fault, unless};
 
-use crate::table::{Misfit, SpanTable, cell_at, store, table_fault};
+use crate::table::{Misfit, SpanTable};
 use extent::Extent;
 use widths::{advance, joined, lessened};
 
-fn row_fault(columns: usize, room: usize, row: usize) -> Option<Misfit>
-    ensures { result ≡ row_fault columns room row }
-{
-    if let Some(misfit) = table_fault(columns, room) {
-        return Some(misfit);
-    }
-    if row < columns {
-        Some(Misfit::Memory)
-    } else {
-        None
-    }
-}
-
-fn turn_fault(columns: usize, room: usize, row: usize, column: usize) -> Option<Misfit>
-    ensures { result ≡ turn_fault columns room row column }
-{
-    if let Some(misfit) = row_fault(columns, room, row) {
-        return Some(misfit);
-    }
-    if column < columns {
-        None
-    } else {
-        Some(Misfit::Span)
-    }
-}
-
-pub(crate) fn merge_fault(columns: usize, room: usize, row: usize, gaps: usize) -> Option<Misfit>
-    ensures { result ≡ merge_fault columns room row gaps }
-{
-    if let Some(misfit) = row_fault(columns, room, row) {
-        return Some(misfit);
-    }
-    if columns < gaps {
-        None
-    } else {
-        Some(Misfit::Memory)
-    }
-}
-
-// Copies the cells of the spans that begin in the first column.
-fn start_row<E: Extent>(cells: &[Option<E>], columns: usize, row: &mut [Option<E>])
-    requires { (columns ≤ length cells.now) × (columns ≤ length row.old) }
-    ensures here { (j : ℕ) → j < columns → slice_index_or row.new j None ≡ slice_index_or cells.now j None }
-    ensures rest { (j : ℕ) → columns ≤ j → slice_index_or row.new j None ≡ slice_index_or row.old j None }
-{
-    for j in 0..columns {
-        store(row, j, cell_at(cells, j));
-    }
-}
-
-// Carries every W(q,j) with j > q, less the advance of column q, into W(q + 1,j).
-fn carry_row<E: Extent>(cells: &[Option<E>], columns: usize, q: usize, by: E, row: &mut [Option<E>])
-    requires { (columns ≤ 32) × ((columns * 32 ≤ length cells.now) × ((columns ≤ length row.old) × (q < columns))) }
-    ensures before { (j : ℕ) → j ≤ q → slice_index_or row.new j None ≡ slice_index_or row.old j None }
-    ensures rest { (j : ℕ) → columns ≤ j → slice_index_or row.new j None ≡ slice_index_or row.old j None }
-    ensures carried { (k j : ℕ) → k < E.count → q < j → j < columns → Near (size (seen E.num k (slice_index_or row.old j None))) → Near (E.num by k) →
-        seen E.num k (slice_index_or row.new j None) ≡ join (seen E.num k (cell cells.now (q + 1) j)) (less (seen E.num k (slice_index_or row.old j None)) (E.num by k)) }
-{
-    for j in q + 1..columns {
-        row[j] = joined(cell_at(cells, (q + 1) * 32 + j), lessened(row[j], by));
-    }
-}
-
-// Columns from left to right: what stands in the row at a column's turn is its width.
-fn merge_rows<E: Extent>(
-    cells: &[Option<E>],
-    columns: usize,
-    gaps: &[i64],
-    widths: &mut [Option<E>],
-)
-    requires { (columns ≤ 32) × ((columns * 32 ≤ length cells.now) × ((columns ≤ length widths.old) × (columns < length gaps.now))) }
-    ensures merged { (es : List (Noted E)) → Tabled E.count E.num columns cells.now es → (k j : ℕ) → k < E.count → TameOn E.num k es gaps.now → j < columns →
-        column E.num k widths.new j ≡ width (widest (on_side E.num k es)) (after E.entered k gaps.now) j }
-    ensures rest { (j : ℕ) → columns ≤ j → slice_index_or widths.new j None ≡ slice_index_or widths.old j None }
-{
-    start_row(cells, columns, widths);
-    for q in 0..columns {
-        let by = advance(widths[q], E::enter(gaps[q + 1]));
-        carry_row(cells, columns, q, by, widths);
-    }
-}
-
 impl<'a, E: Extent> SpanTable<'a, E> {
+    // Refuses a row with fewer widths than the table has columns.
+    fn check_row(&self, widths: usize) -> Result<(), Misfit>
+        ensures { result ≡ unless (row_fault self.now.columns (length self.now.cells.now) widths) tt }
+    {
+        self.check()?;
+        if widths < self.columns {
+            return Err(Misfit::Memory);
+        }
+        Ok(())
+    }
+
+    // Refuses, besides, a turn of a column that the table does not have.
+    fn check_turn(&self, widths: usize, q: usize) -> Result<(), Misfit>
+        ensures { result ≡ unless (turn_fault self.now.columns (length self.now.cells.now) widths q) tt }
+    {
+        self.check_row(widths)?;
+        if q < self.columns {
+            Ok(())
+        } else {
+            Err(Misfit::Span)
+        }
+    }
+
+    // Refuses, besides, fewer gaps than the starting one and one after each column.
+    pub(crate) fn check_merge(&self, widths: usize, gaps: usize) -> Result<(), Misfit>
+        ensures { result ≡ unless (merge_fault self.now.columns (length self.now.cells.now) widths gaps) tt }
+    {
+        self.check_row(widths)?;
+        if self.columns < gaps {
+            Ok(())
+        } else {
+            Err(Misfit::Memory)
+        }
+    }
+
+    // Copies the cells of the spans that begin in the first column.
+    fn start_row(&self, row: &mut [Option<E>])
+        requires { (self.now.columns ≤ length self.now.cells.now) × (self.now.columns ≤ length row.old) }
+        ensures here { (j : ℕ) → j < self.now.columns → slice_index_or row.new j None ≡ slice_index_or self.now.cells.now j None }
+        ensures rest { (j : ℕ) → self.now.columns ≤ j → slice_index_or row.new j None ≡ slice_index_or row.old j None }
+    {
+        row[..self.columns].copy_from_slice(&self.cells[..self.columns]);
+    }
+
+    // Carries every W(q,j) with j > q, less the advance of column q, into W(q + 1,j).
+    fn carry_row(&self, q: usize, by: E, row: &mut [Option<E>])
+        requires { (self.now.columns ≤ 32) × ((self.now.columns * 32 ≤ length self.now.cells.now) × ((self.now.columns ≤ length row.old) × (q < self.now.columns))) }
+        ensures before { (j : ℕ) → j ≤ q → slice_index_or row.new j None ≡ slice_index_or row.old j None }
+        ensures rest { (j : ℕ) → self.now.columns ≤ j → slice_index_or row.new j None ≡ slice_index_or row.old j None }
+        ensures carried { (k j : ℕ) → k < E.count → q < j → j < self.now.columns → Near (size (seen E.num k (slice_index_or row.old j None))) → Near (E.num by k) →
+            seen E.num k (slice_index_or row.new j None) ≡ join (seen E.num k (cell self.now.cells.now (q + 1) j)) (less (seen E.num k (slice_index_or row.old j None)) (E.num by k)) }
+    {
+        // by index: of a zip with `iter_mut` it is known what each borrow writes, and not what the slice then holds
+        for j in q + 1..self.columns {
+            row[j] = joined(self.cells[(q + 1) * 32 + j], lessened(row[j], by));
+        }
+    }
+
+    // Columns from left to right: what stands in the row at a column's turn is its width.
+    fn merge_rows(&self, gaps: &[i64], widths: &mut [Option<E>])
+        requires { (self.now.columns ≤ 32) × ((self.now.columns * 32 ≤ length self.now.cells.now) × ((self.now.columns ≤ length widths.old) × (self.now.columns < length gaps.now))) }
+        ensures merged { (es : List (Noted E)) → Tabled E.count E.num self.now.columns self.now.cells.now es → (k j : ℕ) → k < E.count → TameOn E.num k es gaps.now → j < self.now.columns →
+            column E.num k widths.new j ≡ width (widest (on_side E.num k es)) (after E.entered k gaps.now) j }
+        ensures rest { (j : ℕ) → self.now.columns ≤ j → slice_index_or widths.new j None ≡ slice_index_or widths.old j None }
+    {
+        self.start_row(widths);
+        // by index: a turn names the width in hand, the gap behind it and the next row of cells
+        for q in 0..self.columns {
+            let by = advance(widths[q], E::enter(gaps[q + 1]));
+            self.carry_row(q, by, widths);
+        }
+    }
+
     // The row of merged spans as the first column's turn comes: W(1,j) for each j.
     pub fn begin(&self, row: &mut [Option<E>]) -> Result<(), Misfit>
         ensures answer { result ≡ unless (row_fault self.now.columns (length self.now.cells.now) (length row.old)) tt }
@@ -100,10 +91,8 @@ impl<'a, E: Extent> SpanTable<'a, E> {
         ensures rest { (j : ℕ) → self.now.columns ≤ j → slice_index_or row.new j None ≡ slice_index_or row.old j None }
         ensures refused { is_ok result ≡ false → row.new ≡ row.old }
     {
-        if let Some(misfit) = row_fault(self.columns, self.cells.len(), row.len()) {
-            return Err(misfit);
-        }
-        start_row(self.cells, self.columns, row);
+        self.check_row(row.len())?;
+        self.start_row(row);
         Ok(())
     }
 
@@ -116,10 +105,8 @@ impl<'a, E: Extent> SpanTable<'a, E> {
         ensures rest { (j : ℕ) → self.now.columns ≤ j → slice_index_or row.new j None ≡ slice_index_or row.old j None }
         ensures refused { is_ok result ≡ false → row.new ≡ row.old }
     {
-        if let Some(misfit) = turn_fault(self.columns, self.cells.len(), row.len(), q) {
-            return Err(misfit);
-        }
-        carry_row(self.cells, self.columns, q, by, row);
+        self.check_turn(row.len(), q)?;
+        self.carry_row(q, by, row);
         Ok(())
     }
 
@@ -131,15 +118,8 @@ impl<'a, E: Extent> SpanTable<'a, E> {
         ensures rest { (j : ℕ) → self.now.columns ≤ j → slice_index_or widths.new j None ≡ slice_index_or widths.old j None }
         ensures refused { is_ok result ≡ false → widths.new ≡ widths.old }
     {
-        if let Some(misfit) = merge_fault(
-            self.columns,
-            self.cells.len(),
-            widths.len(),
-            gaps.len(),
-        ) {
-            return Err(misfit);
-        }
-        merge_rows(self.cells, self.columns, gaps, widths);
+        self.check_merge(widths.len(), gaps.len())?;
+        self.merge_rows(gaps, widths);
         Ok(())
     }
 }

@@ -19,74 +19,62 @@ pub enum Misfit {
 }
 
 // The widest entry over each run of columns, in lent memory: 32 cells for each column, by the first column of the run.
+// One flat slice, since a host lends what memory it has: rows of 32 would ask more of it.
 #[derive(Drop)]
 pub struct SpanTable<'a, E: Extent> {
     pub columns: usize,
     pub cells: &'a mut [Option<E>],
 }
 
-pub(crate) fn table_fault(columns: usize, room: usize) -> Option<Misfit>
-    ensures { result ≡ table_fault columns room }
-{
-    if columns < 1 || columns > 32 {
-        Some(Misfit::Columns)
-    } else if room < columns * 32 {
-        Some(Misfit::Memory)
-    } else {
-        None
-    }
-}
-
-fn span_fault(columns: usize, room: usize, first: usize, last: usize) -> Option<Misfit>
-    ensures { result ≡ span_fault columns room first last }
-{
-    if let Some(misfit) = table_fault(columns, room) {
-        return Some(misfit);
-    }
-    if first <= last && last < columns {
-        None
-    } else {
-        Some(Misfit::Span)
-    }
-}
-
-// The cell at a place.
-pub(crate) fn cell_at<E: Extent>(cells: &[Option<E>], place: usize) -> Option<E>
-    requires { place < length cells.now }
-    ensures { result ≡ slice_index_or cells.now place None }
-{
-    cells[place]
-}
-
-// Writes one element.
-pub(crate) fn store<T: Copy>(slice: &mut [T], place: usize, value: T)
-    requires { place < length slice.old }
-    ensures { slice.new ≡ slice_set slice.old place value }
-{
-    slice[place] = value;
-}
-
-// Empties the cells before a place.
-pub(crate) fn empty_cells<E: Extent>(cells: &mut [Option<E>], upto: usize)
-    requires { upto ≤ length cells.old }
-    ensures emptied { (p : ℕ) → p < upto → slice_index_or cells.new p None ≡ None }
-    ensures others { (p : ℕ) → upto ≤ p → slice_index_or cells.new p None ≡ slice_index_or cells.old p None }
-{
-    for p in 0..upto {
-        cells[p] = None;
-    }
-}
-
-// Joins a width into the cell at a place.
-pub(crate) fn widen<E: Extent>(cells: &mut [Option<E>], place: usize, width: E)
-    requires { place < length cells.old }
-    ensures here { (k : ℕ) → k < E.count → seen E.num k (slice_index_or cells.new place None) ≡ join (seen E.num k (slice_index_or cells.old place None)) (Some (E.num width k)) }
-    ensures others { (p : ℕ) → (p ≢ place) → slice_index_or cells.new p None ≡ slice_index_or cells.old p None }
-{
-    cells[place] = joined(cells[place], Some(width));
-}
-
 impl<'a, E: Extent> SpanTable<'a, E> {
+    // Refuses what are not 1 to 32 columns with 32 cells for each.
+    pub(crate) fn check(&self) -> Result<(), Misfit>
+        ensures { result ≡ unless (table_fault self.now.columns (length self.now.cells.now)) tt }
+    {
+        if !(1..=32).contains(&self.columns) {
+            return Err(Misfit::Columns);
+        }
+        if self.cells.len() < self.columns * 32 {
+            return Err(Misfit::Memory);
+        }
+        Ok(())
+    }
+
+    // Refuses, besides, a span that leaves the table or ends before it begins.
+    fn check_span(&self, first: usize, last: usize) -> Result<(), Misfit>
+        ensures { result ≡ unless (span_fault self.now.columns (length self.now.cells.now) first last) tt }
+    {
+        self.check()?;
+        if first <= last && last < self.columns {
+            Ok(())
+        } else {
+            Err(Misfit::Span)
+        }
+    }
+
+    // Empties the cells of the columns.
+    pub(crate) fn empty(&mut self)
+        requires { self.old.columns * 32 ≤ length self.old.cells.now }
+        ensures columns { self.new.columns ≡ self.old.columns }
+        ensures room { length self.new.cells.now ≡ length self.old.cells.now }
+        ensures emptied { (p : ℕ) → p < self.old.columns * 32 → slice_index_or self.new.cells.now p None ≡ None }
+        ensures others { (p : ℕ) → self.old.columns * 32 ≤ p → slice_index_or self.new.cells.now p None ≡ slice_index_or self.old.cells.now p None }
+    {
+        self.cells[..self.columns * 32].fill(None);
+    }
+
+    // Joins an entry's width into its cell.
+    pub(crate) fn widen(&mut self, entry: Entry<E>)
+        requires { entry.first * 32 + entry.last < length self.old.cells.now }
+        ensures columns { self.new.columns ≡ self.old.columns }
+        ensures room { length self.new.cells.now ≡ length self.old.cells.now }
+        ensures here { (k : ℕ) → k < E.count → seen E.num k (cell self.new.cells.now entry.first entry.last) ≡ join (seen E.num k (cell self.old.cells.now entry.first entry.last)) (Some (E.num entry.width k)) }
+        ensures others { (p : ℕ) → (p ≢ entry.first * 32 + entry.last) → slice_index_or self.new.cells.now p None ≡ slice_index_or self.old.cells.now p None }
+    {
+        let place = entry.first * 32 + entry.last;
+        self.cells[place] = joined(self.cells[place], Some(entry.width));
+    }
+
     // Forgets all entries. Cells past those of the columns stay.
     pub fn clear(&mut self) -> Result<(), Misfit>
         ensures answer { result ≡ unless (table_fault self.old.columns (length self.old.cells.now)) tt }
@@ -96,11 +84,8 @@ impl<'a, E: Extent> SpanTable<'a, E> {
         ensures others { (p : ℕ) → self.old.columns * 32 ≤ p → slice_index_or self.new.cells.now p None ≡ slice_index_or self.old.cells.now p None }
         ensures refused { is_ok result ≡ false → self.new.cells.now ≡ self.old.cells.now }
     {
-        if let Some(misfit) = table_fault(self.columns, self.cells.len()) {
-            return Err(misfit);
-        }
-        let upto = self.columns * 32;
-        empty_cells(self.cells, upto);
+        self.check()?;
+        self.empty();
         Ok(())
     }
 
@@ -114,10 +99,8 @@ impl<'a, E: Extent> SpanTable<'a, E> {
         ensures others { (p : ℕ) → (p ≢ entry.first * 32 + entry.last) → slice_index_or self.new.cells.now p None ≡ slice_index_or self.old.cells.now p None }
         ensures refused { is_ok result ≡ false → self.new.cells.now ≡ self.old.cells.now }
     {
-        if let Some(misfit) = span_fault(self.columns, self.cells.len(), entry.first, entry.last) {
-            return Err(misfit);
-        }
-        widen(self.cells, entry.first * 32 + entry.last, entry.width);
+        self.check_span(entry.first, entry.last)?;
+        self.widen(entry);
         Ok(())
     }
 
@@ -125,9 +108,7 @@ impl<'a, E: Extent> SpanTable<'a, E> {
     pub fn look(&self, first: usize, last: usize) -> Result<Option<E>, Misfit>
         ensures { result ≡ unless (span_fault self.now.columns (length self.now.cells.now) first last) (cell self.now.cells.now first last) }
     {
-        match span_fault(self.columns, self.cells.len(), first, last) {
-            Some(misfit) => Err(misfit),
-            None => Ok(cell_at(self.cells, first * 32 + last)),
-        }
+        self.check_span(first, last)?;
+        Ok(self.cells[first * 32 + last])
     }
 }

@@ -1,5 +1,5 @@
 -- What a table is made of: the preamble as it is read, or what stands for it where it is refused.
-use Rattle.std.specs.Prelude.{◌≡◌, ℕ, ◌+◌, ◌<◌, ◌≤◌, List, [], ◌∷◌, map, length, take, pos, Some, None, Ok, Err, Option, Result, slice_index_or}
+use Rattle.std.specs.Prelude.{◌≡◌, ℕ, ◌<◌, ◌≤◌, List, [], ◌∷◌, length, take, pos, Some, None, Ok, Err, Option, Result, slice_index_or}
 use Rattle.faults.specs.declared.Fault.{Fault}
 use Rattle.lengths.specs.declared.order.Order.TheVariants.{Points}
 use Rattle.lengths.specs.Gaps.{Parts, parts, parts_of, gap_of}
@@ -7,12 +7,12 @@ use Rattle.ledger.specs.declared.records.Room.{Room}
 use Rattle.ledger.specs.Refusals.{out_of_range}
 use Rattle.ledger.specs.Calls.{Template}
 use Rattle.ledger.specs.Preambles.{Preamble, preamble_of}
-use Rattle.ledger.specs.declared.records.Column.{Column}
+use Rattle.ledger.specs.declared.records.ColumnRecord.{ColumnRecord}
 use Rattle.ledger.specs.Chunks.{total}
 use Rattle.ledger.specs.Items.{taken}
 use Rattle.templates.specs.declared.memory.Templates.{Templates}
 use Rattle.templates.specs.declared.memory.Read.{Read}
-use Rattle.templates.specs.Readings.{templates_in}
+use Rattle.templates.specs.Readings.{templates_in, gaps_in}
 use Rattle.templates.specs.Kept.{Lies, Kept}
 use Rattle.table.specs.declared.make.Start.{Start}
 
@@ -55,16 +55,22 @@ abbrev pub room_made : Result Preamble Fault → Room → Room
 room_made (Ok p) r = r
 room_made (Err f) r = record { items = r.items; entries = r.entries; lines = 0; text = r.text }
 
--- what was read lies in the memory, and is these templates and gaps
-pub record Shaped {E : Type 0} (text : List ℕ) (t : Templates E) (d : Read) (ts : List Template) (gs : List Parts) : Type 0 where
+-- what was read lies in the memory
+pub record Lying {E : Type 0} (text : List ℕ) (t : Templates E) (d : Read) : Type 0 where
   pub some : 1 ≤ d.columns
   pub few : d.columns ≤ 32
   pub room : d.pieces ≤ 4096
   pub inside : d.bytes ≤ length text
-  pub templates : templates_in (take d.bytes text) d.pieces d.columns t ≡ ts
-  pub gaps : map parts_of (take (d.columns + 1) t.gaps) ≡ gs
-  pub columns : (c : ℕ) (e : Column) → c < d.columns → Lies d.pieces (slice_index_or t.columns c e)
+  pub columns : (c : ℕ) (e : ColumnRecord E) → c < d.columns → Lies d.pieces (slice_index_or t.columns c e).template
   pub bare : total taken (take d.pieces t.pieces) ≡ 0
+  pub long-columns : d.columns ≤ length t.columns
+  pub long-pieces : d.pieces ≤ length t.pieces
+
+-- .. and is these templates and gaps
+pub record Shaped {E : Type 0} (text : List ℕ) (t : Templates E) (d : Read) (ts : List Template) (gs : List Parts) : Type 0 where
+  pub lying : Lying text t d
+  pub templates : templates_in (take d.bytes text) d.pieces d.columns t ≡ ts
+  pub gaps : parts_of t.start ∷ gaps_in d.columns t ≡ gs
 
 -- where a preamble was read, the starting gap is the one that was given
 abbrev pub KeptFrom : {E : Type 0} → List ℕ → Option Parts → Templates E → Result Read Fault → Type 0

@@ -7,21 +7,20 @@ use Rattle.widths.specs.declared.Entry.{Entry as Sized}
 use Rattle.widths.specs.Merging.{width, seen}
 use Rattle.widths.specs.Entries.{widest}
 use Rattle.extent.specs.Sizes.{Within}
-use Rattle.ledger.specs.Ledger.{Item, Ledger}
+use Rattle.ledger.specs.Ledger.{Item}
 use Rattle.table.specs.declared.cells.Fresh.{Fresh}
 use Rattle.table.specs.declared.cells.Begun.{Begun}
 use Rattle.table.specs.declared.cells.Refusal.{Refusal}
+use Rattle.table.specs.declared.cells.InHand.{InHand}
+use Rattle.table.specs.declared.cells.InHand.TheVariants as held
+use Rattle.rows.specs.declared.state.Cell.{Cell}
+use Rattle.rows.specs.declared.state.Cell.TheVariants as cell
 
 -- an extent is an item's width on each side
 abbrev pub Fitting : {E : Type 0} → ℕ → (E → ℕ → ℤ) → (Item → ℕ → ℤ) → E → Item → Type 0
 Fitting count num wide e a = (k : ℕ) → k < count → (num e k ≡ wide a k) × Within 1073741823 (num e k)
 
--- a call that is refused for a fault, or answered with y
-abbrev pub unless : {Y : Type 0} → Option Fault → Y → Result Y Fault
-unless None y = Ok y
-unless (Some f) y = Err f
-
--- the same of a call that takes a cell: refused, it hands the cell back
+-- a call that takes a cell: refused, it hands the cell back
 abbrev pub handing : {C Y : Type 0} → C → Option Fault → Y → Result Y (Refusal C)
 handing c None y = Ok y
 handing c (Some f) y = Err (record { cell = c; fault = f })
@@ -32,10 +31,10 @@ fresh_cell c = record { column = c }
 abbrev pub begun_cell : ℕ → Begun
 begun_cell c = record { column = c }
 
--- a refused call changes nothing
-abbrev pub followed : {X Y : Type 0} → Result X Y → Ledger → Ledger → Ledger
-followed (Ok x) g next = next
-followed (Err y) g next = g
+-- a cell of either kind, as its row knows it
+abbrev pub place_of : InHand → Cell
+place_of (held.Fresh f) = cell.Fresh f.column
+place_of (held.Begun b) = cell.Begun b.column
 
 -- ask: 24, or what is merged; columns are counted from 1
 abbrev pub has_column : ℕ → ℕ → Bool

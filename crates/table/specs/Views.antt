@@ -1,59 +1,71 @@
 -- A table as its calls speak of it: preamble, room, ledger, and the widths that it keeps.
-use Rattle.std.specs.Prelude.{◌≡◌, ℕ, List, map, length, ℤ, Result}
-use Rattle.lengths.specs.declared.gap.Gap.{Gap}
+use Rattle.std.specs.Prelude.{◌≡◌, ℕ, List, ◌∷◌, map, length, ℤ}
 use Rattle.lengths.specs.Gaps.{Parts, parts_of}
-use Rattle.measure.specs.declared.measurer.Metrics.{Metrics}
 use Rattle.measure.specs.declared.measurer.Measurer.{Ghosts as Meaning}
 use Rattle.extent.specs.declared.Extent.{Ghosts as Sides}
 use Rattle.widths.specs.declared.Entry.{Entry as Sized}
 use Rattle.ledger.specs.declared.records.Room.{Room}
+use Rattle.ledger.specs.declared.records.ColumnRecord.{ColumnRecord}
 use Rattle.ledger.specs.Ledger.{Item, Ledger}
 use Rattle.ledger.specs.Calls.{Template, laid_entries}
 use Rattle.ledger.specs.Naturals.{wide_by, natural_by}
-use Rattle.rows.specs.Good.{room_in, templates_of, ledger_of}
+use Rattle.rows.specs.declared.preamble.Preamble.{Preamble}
+use Rattle.rows.specs.Columns.{columns_in as templates_on}
+use Rattle.rows.specs.Views.{templates_at, room_at, ledger_at}
 use Rattle.rows.specs.Sound.{Sound}
 use Rattle.table.specs.declared.table.Table.{Table}
 
 -- the three things that a table is
 abbrev pub templates_in : {X E : Type 0} {m : Meaning X E} {s : Sides E} → Table X E m s → List Template
-templates_in t = templates_of t.preamble
+templates_in t = templates_at t.rows
+
+abbrev pub gap_after : {E : Type 0} → ColumnRecord E → Parts
+gap_after c = parts_of c.gap
+
+abbrev pub gaps_of : {E : Type 0} → Preamble E → List Parts
+gaps_of q = parts_of q.start ∷ map gap_after q.columns.now
 
 abbrev pub gaps_in : {X E : Type 0} {m : Meaning X E} {s : Sides E} → Table X E m s → List Parts
-gaps_in t = map parts_of t.preamble.gaps.now
+gaps_in t = gaps_of t.rows.preamble
 
 abbrev pub room_of : {X E : Type 0} {m : Meaning X E} {s : Sides E} → Table X E m s → Room
-room_of t = room_in t.memory
+room_of t = room_at t.rows
 
 abbrev pub ledger_in : {X E : Type 0} {m : Meaning X E} {s : Sides E} → Table X E m s → Ledger
-ledger_in t = ledger_of t.preamble t.state t.memory
+ledger_in t = ledger_at t.rows
 
 -- the number of columns
 abbrev pub columns_in : {X E : Type 0} {m : Meaning X E} {s : Sides E} → Table X E m s → ℕ
-columns_in t = length t.preamble.columns.now
+columns_in t = length (templates_on t.rows.preamble.columns.now)
 
--- natural lengths: of a gap, and of the starting gap and the gap after each column
-abbrev pub natural_in : Gap → ℤ
-natural_in g = (parts_of g).natural
+-- natural lengths: of the starting gap and of the gap after each column
+abbrev pub natural_in : Parts → ℤ
+natural_in g = g.natural
+
+abbrev pub lengths_of : {E : Type 0} → Preamble E → List ℤ
+lengths_of q = map natural_in (gaps_of q)
 
 abbrev pub lengths_in : {X E : Type 0} {m : Meaning X E} {s : Sides E} → Table X E m s → List ℤ
-lengths_in t = map natural_in t.preamble.gaps.now
+lengths_in t = lengths_of t.rows.preamble
 
 -- what no call changes
 pub record Kept {X E : Type 0} {m : Meaning X E} {s : Sides E} (t t' : Table X E m s) : Type 0 where
-  pub preamble : t'.preamble ≡ t.preamble
-  pub room : room_in t'.memory ≡ room_in t.memory
+  pub preamble : t'.rows.preamble ≡ t.rows.preamble
+  pub room : room_at t'.rows ≡ room_at t.rows
   pub measurer : t'.measurer ≡ t.measurer
   pub made : t'.made ≡ t.made
 
-module _ {X E : Type 0} {m : Meaning X E} {s : Sides E} (count : ℕ) (num : E → ℕ → ℤ) (entered : ℕ → ℤ → ℤ) (meaning : X → List ℕ → Result (Metrics E) ℕ) (blank : X → E) where
-  -- an item's width on a side, by the meaning of the table's measurer
-  abbrev pub wide_in : Table X E m s → Item → ℕ → ℤ
-  wide_in t = wide_by num entered (meaning t.measurer.now) (blank t.measurer.now)
+-- an item's width on a side, by the meaning of the table's measurer
+abbrev pub wide_in : {X E : Type 0} {m : Meaning X E} {s : Sides E} → Table X E m s → Item → ℕ → ℤ
+wide_in {m = m} {s = s} t = wide_by s.num s.entered (m.meaning t.measurer.now) (m.blank t.measurer.now)
 
-  -- the widths that a table keeps are natural widths by that meaning
-  abbrev pub ByMeaning : Table X E m s → Type 0
-  ByMeaning t = Sound count num (wide_in t) t.preamble t.state t.memory
+-- the widths that a table keeps are natural widths by that meaning: so it is of every table
+abbrev pub ByMeaning : {X E : Type 0} {m : Meaning X E} {s : Sides E} → Table X E m s → Type 0
+ByMeaning {s = s} t = Sound s.count s.num (wide_in t) t.rows.preamble t.rows.draft.state t.rows.draft.memory
 
-  -- the laid entries with their natural widths on side k
-  abbrev pub laid_in : Table X E m s → ℕ → List (Sized ℤ)
-  laid_in t k = map (natural_by (wide_in t) k) (laid_entries (ledger_in t))
+pub by_meaning : {X E : Type 0} {m : Meaning X E} {s : Sides E} (t : Table X E m s) → ByMeaning t
+by_meaning t = t.meant
+
+-- the laid entries with their natural widths on side k
+abbrev pub laid_in : {X E : Type 0} {m : Meaning X E} {s : Sides E} → Table X E m s → ℕ → List (Sized ℤ)
+laid_in t k = map (natural_by (wide_in t) k) (laid_entries (ledger_in t))

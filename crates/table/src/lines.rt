@@ -1,21 +1,20 @@
 ghost use Rattle.std.specs.Prelude.{◌≡◌};
 ghost use Rattle.ledger.specs.Ledger.{rule, gap};
 ghost use Rattle.ledger.specs.Calls.{rule_verdict, gap_verdict, gap_fits, ruled_by};
-ghost use Rattle.table.specs.Promises.{unless, followed};
-ghost use Rattle.table.specs.Views.{templates_in, room_of, ledger_in, ByMeaning, Kept};
+ghost use Rattle.rows.specs.Answers.{unless, followed};
+ghost use Rattle.table.specs.Views.{templates_in, room_of, ledger_in, Kept};
 
 use crate::table::Table;
 use extent::Extent;
 use faults::{Cause, Fault};
 use measure::Measurer;
-use rows::calls::{is_open, rule_in};
 use rows::state::LineRecord;
 
 // A gap's length is from 0 to 16,777,215.
 fn gap_fits(sp: i64) -> bool
     ensures { result ≡ gap_fits sp }
 {
-    0 <= sp && sp <= 16_777_215
+    (0..=16_777_215).contains(&sp)
 }
 
 impl<'a, 'p, 'm, M: Measurer> Table<'a, 'p, 'm, M> {
@@ -23,43 +22,21 @@ impl<'a, 'p, 'm, M: Measurer> Table<'a, 'p, 'm, M> {
     pub fn rule(&mut self) -> Result<(), Fault>
         ensures answer { result ≡ unless (rule_verdict (templates_in self.old) (room_of self.old) (ledger_in self.old)) tt }
         ensures ledger { ledger_in self.new ≡ followed result (ledger_in self.old) (ruled_by rule (ledger_in self.old)) }
-        ensures meant { ByMeaning M.Extent.Extent.count M.Extent.Extent.num M.Extent.Extent.entered M.Measurer.meaning M.Measurer.blank self.old
-            → ByMeaning M.Extent.Extent.count M.Extent.Extent.num M.Extent.Extent.entered M.Measurer.meaning M.Measurer.blank self.new }
         ensures kept { Kept self.old self.new }
     {
-        match rule_in(
-            &mut self.state,
-            &mut self.memory,
-            &self.preamble,
-            LineRecord::Rule,
-        ) {
-            Some(fault) => Err(fault),
-            None => Ok(()),
-        }
+        self.rows.rule(LineRecord::Rule)
     }
 
     /// Adds a gap of this length.
     pub fn gap(&mut self, sp: i64) -> Result<(), Fault>
         ensures answer { result ≡ unless (gap_verdict (templates_in self.old) (room_of self.old) (ledger_in self.old) sp) tt }
         ensures ledger { ledger_in self.new ≡ followed result (ledger_in self.old) (ruled_by (gap sp) (ledger_in self.old)) }
-        ensures meant { ByMeaning M.Extent.Extent.count M.Extent.Extent.num M.Extent.Extent.entered M.Measurer.meaning M.Measurer.blank self.old
-            → ByMeaning M.Extent.Extent.count M.Extent.Extent.num M.Extent.Extent.entered M.Measurer.meaning M.Measurer.blank self.new }
         ensures kept { Kept self.old self.new }
     {
-        if is_open(self.state.stage) {
-            return Err(Cause::RowInHand.at(0));
-        }
+        self.rows.draft.state.check_closed()?;
         if !gap_fits(sp) {
             return Err(Cause::OutOfRange.at(0));
         }
-        match rule_in(
-            &mut self.state,
-            &mut self.memory,
-            &self.preamble,
-            LineRecord::Gap(sp),
-        ) {
-            Some(fault) => Err(fault),
-            None => Ok(()),
-        }
+        self.rows.rule(LineRecord::Gap(sp))
     }
 }

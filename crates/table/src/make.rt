@@ -1,25 +1,25 @@
-ghost use Rattle.std.specs.Prelude.{◌≡◌, ℕ, ◌+◌, ◌<◌, ◌≤◌, [], ◌∷◌, map, length, take, pos};
+ghost use Rattle.std.specs.Prelude.{◌≡◌, ℕ, ◌<◌, [], ◌∷◌, length, take, pos, IfOk};
 ghost use Rattle.lengths.specs.Gaps.{parts_of};
-ghost use Rattle.ledger.specs.Naturals.{wide_by};
+ghost use Rattle.ledger.specs.Naturals.{wide_by, fault_in};
 ghost use Rattle.rows.specs.Good.{room_in, new_ledger};
-ghost use Rattle.templates.specs.Readings.{read_in};
-ghost use Rattle.templates.specs.Kept.{Widths, WidthsIn, u_stored, v_stored};
-ghost use Rattle.table.specs.Making.{no_gap, lines_kept, start_of, read_from, bytes_read, templates_made, gaps_made, text_made, room_made, Shaped, KeptFrom};
-ghost use Rattle.table.specs.Views.{templates_in, gaps_in, room_of, ledger_in, ByMeaning};
+ghost use Rattle.ledger.specs.declared.records.Owed.{Owed};
+ghost use Rattle.templates.specs.Readings.{read_in, empty_with};
+ghost use Rattle.templates.specs.Kept.{Widths, WidthsIn};
+ghost use Rattle.table.specs.Making.{no_gap, lines_kept, start_of, read_from, bytes_read, templates_made, gaps_made, text_made, room_made, Lying, Shaped, KeptFrom};
+ghost use Rattle.table.specs.Views.{templates_in, gaps_in, room_of, ledger_in};
 
 use crate::table::Table;
 use extent::Extent;
 use faults::{Cause, Fault};
-use ledger::records::{Column, Owed};
 use lengths::gap::Gap;
 use measure::Measurer;
-use rows::begin::new_state;
 use rows::preamble::Preamble;
+use rows::rows::Rows;
 use rows::state::Memory;
-use templates::memory::{Read, Templates};
+use templates::memory::{Read, Templates, empty_column};
 use templates::read::read_preamble;
 
-/// The starting gap as a host gives it.
+/// The starting gap as a host gives it, in numbers: what is out of its range is refused by `make`.
 #[derive(Clone, Copy)]
 pub struct Start {
     pub natural: i64,
@@ -29,48 +29,31 @@ pub struct Start {
 
 // What was read, in the lent memory and the text.
 fn view<'p, E: Copy>(read: Read, templates: &'p Templates<E>, text: &'p [u8]) -> Preamble<'p, E>
-    requires columns { read.columns ≤ 32 }
-    requires pieces { read.pieces ≤ 4096 }
-    requires bytes { read.bytes ≤ length text.now }
+    requires lying { Lying text.now templates.now read }
+    ensures start { result.start ≡ templates.now.start }
     ensures columns { result.columns.now ≡ take read.columns templates.now.columns }
-    ensures widths { result.widths.now ≡ take read.columns templates.now.widths }
-    ensures gaps { result.gaps.now ≡ take (read.columns + 1) templates.now.gaps }
     ensures pieces { result.pieces.now ≡ take read.pieces templates.now.pieces }
     ensures text { result.text.now ≡ take read.bytes text.now }
-    ensures sizes { (length result.columns.now ≡ read.columns) × (length result.widths.now ≡ read.columns) × (length result.gaps.now ≡ read.columns + 1) × (length result.pieces.now ≡ read.pieces) }
+    ensures sizes { (length result.columns.now ≡ read.columns) × (length result.pieces.now ≡ read.pieces) }
 {
-    let columns = read.columns;
-    let pieces = read.pieces;
-    let bytes = read.bytes;
-    let widths = &templates.widths[..];
+    let columns = &templates.columns[..];
     Preamble {
-        columns: &templates.columns[0..columns],
-        widths: &widths[0..columns],
-        gaps: &templates.gaps[0..columns + 1],
-        pieces: &templates.pieces[0..pieces],
-        text: &text[0..bytes],
+        start: templates.start,
+        columns: &columns[0..read.columns],
+        pieces: &templates.pieces[0..read.pieces],
+        text: &text[0..read.bytes],
     }
 }
 
 // What stands for a preamble that is refused: one column with an empty template, and no gaps.
 fn blank<E: Extent>(templates: &mut Templates<E>) -> Read
     ensures answer { result ≡ record { columns = 1; pieces = 0; bytes = 0 } }
-    ensures columns { take 1 templates.new.columns ≡ record { from = 0; u = 0; v = 0 } ∷ [] }
-    ensures gaps { map parts_of (take 2 templates.new.gaps) ≡ no_gap ∷ no_gap ∷ [] }
-    ensures us { (k : ℕ) → k < E.count → map (u_stored E.num k) (take 1 templates.new.widths) ≡ pos 0 ∷ [] }
-    ensures vs { (k : ℕ) → k < E.count → map (v_stored E.num k) (take 1 templates.new.widths) ≡ pos 0 ∷ [] }
+    ensures column { (w : Owed E) × ((take 1 templates.new.columns ≡ empty_with 0 w templates.new.start ∷ []) × ((k : ℕ) → k < E.count → (E.num w.u k ≡ pos 0) × (E.num w.v k ≡ pos 0))) }
+    ensures gap { parts_of templates.new.start ≡ no_gap }
 {
-    templates.columns[0] = Column {
-        from: 0,
-        u: 0,
-        v: 0,
-    };
-    templates.widths[0] = Owed {
-        u: E::zero(),
-        v: E::zero(),
-    };
-    templates.gaps[0] = Gap::none();
-    templates.gaps[1] = Gap::none();
+    let gap = Gap::none();
+    templates.start = gap;
+    templates.columns[0] = empty_column(0, gap);
     Read {
         columns: 1,
         pieces: 0,
@@ -82,10 +65,7 @@ fn blank<E: Extent>(templates: &mut Templates<E>) -> Read
 fn lines_kept(made: Result<usize, Fault>, lines: usize) -> usize
     ensures { result ≡ lines_kept made lines }
 {
-    match made {
-        Ok(_) => lines,
-        Err(_) => 0,
-    }
+    made.map_or(0, |_| lines)
 }
 
 // Reads the preamble behind the starting gap, which is tested first.
@@ -99,13 +79,11 @@ fn read_at<M: Measurer>(
     ensures kept { KeptFrom text.now (start_of start) templates.new result }
     ensures widths { WidthsIn M.Extent.Extent.count M.Extent.Extent.num (wide_by M.Extent.Extent.num M.Extent.Extent.entered (M.Measurer.meaning measurer.now) (M.Measurer.blank measurer.now)) text.now templates.new result }
 {
-    match Gap::new(start.natural, start.stretch, start.order) {
-        Some(gap) => read_preamble(measurer, gap, text, templates),
-        None => Err(Cause::OutOfRange.at(0)),
-    }
+    let gap = Gap::new(start.natural, start.stretch, start.order).ok_or(Cause::OutOfRange.at(0))?;
+    read_preamble(measurer, gap, text, templates)
 }
 
-// What the table is made of, and the answer.
+// What the table is made of, and the answer: beside one another, since `make` cannot fail.
 #[derive(Clone, Copy)]
 struct Prepared {
     read: Read,
@@ -147,14 +125,12 @@ impl<'a, 'p, 'm, M: Measurer> Table<'a, 'p, 'm, M> {
         ensures answer { result.made ≡ bytes_read (read_from text.now (M.Measurer.meaning measurer.now) (start_of start)) }
         ensures templates { templates_in result ≡ templates_made (read_from text.now (M.Measurer.meaning measurer.now) (start_of start)) }
         ensures gaps { gaps_in result ≡ gaps_made (start_of start) (read_from text.now (M.Measurer.meaning measurer.now) (start_of start)) }
-        ensures text { result.preamble.text.now ≡ text_made text.now (read_from text.now (M.Measurer.meaning measurer.now) (start_of start)) }
+        ensures text { result.rows.preamble.text.now ≡ text_made text.now (read_from text.now (M.Measurer.meaning measurer.now) (start_of start)) }
         ensures ledger { ledger_in result ≡ new_ledger }
         ensures room { room_of result ≡ room_made (read_from text.now (M.Measurer.meaning measurer.now) (start_of start)) (room_in memory.entry) }
-        ensures meant { ByMeaning M.Extent.Extent.count M.Extent.Extent.num M.Extent.Extent.entered M.Measurer.meaning M.Measurer.blank result }
         ensures measurer { result.measurer ≡ measurer.entry }
     {
-        let prepared = prepare(measurer, start, text, templates);
-        let made = prepared.made;
+        let Prepared { read, made } = prepare(measurer, start, text, templates);
         let Memory {
             items,
             entries,
@@ -162,17 +138,41 @@ impl<'a, 'p, 'm, M: Measurer> Table<'a, 'p, 'm, M> {
             text: bytes,
         } = memory;
         let kept = lines_kept(made, lines.len());
+        let memory = Memory {
+            items,
+            entries,
+            lines: &mut lines[0..kept],
+            text: bytes,
+        };
+        let preamble = view(read, templates, text);
         Table {
-            memory: Memory {
-                items,
-                entries,
-                lines: &mut lines[0..kept],
-                text: bytes,
-            },
-            preamble: view(prepared.read, templates, text),
+            rows: Rows::new(memory, preamble, M::Extent::zero()),
             measurer,
-            state: new_state(M::Extent::zero()),
             made,
+        }
+    }
+
+    /// The same as `make`, or why the preamble is refused.
+    pub fn try_make(
+        measurer: &'m M,
+        memory: Memory<'a, M::Extent>,
+        templates: &'p mut Templates<M::Extent>,
+        start: Start,
+        text: &'p [u8],
+    ) -> Result<Table<'a, 'p, 'm, M>, Fault>
+        ensures answer { fault_in result ≡ fault_in (read_from text.now (M.Measurer.meaning measurer.now) (start_of start)) }
+        ensures table { IfOk result (λ t. (t.made ≡ bytes_read (read_from text.now (M.Measurer.meaning measurer.now) (start_of start)))
+            × (templates_in t ≡ templates_made (read_from text.now (M.Measurer.meaning measurer.now) (start_of start)))
+            × (gaps_in t ≡ gaps_made (start_of start) (read_from text.now (M.Measurer.meaning measurer.now) (start_of start)))
+            × (t.rows.preamble.text.now ≡ text_made text.now (read_from text.now (M.Measurer.meaning measurer.now) (start_of start)))
+            × (ledger_in t ≡ new_ledger)
+            × (room_of t ≡ room_made (read_from text.now (M.Measurer.meaning measurer.now) (start_of start)) (room_in memory.entry))
+            × (t.measurer ≡ measurer.entry)) }
+    {
+        let table = Table::make(measurer, memory, templates, start, text);
+        match table.made {
+            Ok(_) => Ok(table),
+            Err(fault) => Err(fault),
         }
     }
 
@@ -187,6 +187,6 @@ impl<'a, 'p, 'm, M: Measurer> Table<'a, 'p, 'm, M> {
     pub fn columns(&self) -> usize
         ensures { result ≡ length (templates_in self.now) }
     {
-        self.preamble.columns.len()
+        self.rows.preamble.count()
     }
 }

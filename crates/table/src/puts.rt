@@ -1,13 +1,13 @@
-ghost use Rattle.std.specs.Prelude.{◌≡◌, ℕ, ◌≤◌, true, length, ℤ};
+ghost use Rattle.std.specs.Prelude.{◌≡◌, ◌≤◌, true, length};
 ghost use Rattle.lengths.specs.Gaps.{natural_fits};
-ghost use Rattle.ledger.specs.Ledger.{Item, cell_word, space, kern, hfil};
+ghost use Rattle.ledger.specs.Ledger.{cell_word, space, kern, hfil};
 ghost use Rattle.ledger.specs.Items.{taken, meant};
 ghost use Rattle.ledger.specs.Calls.{on_open, puts};
 ghost use Rattle.ledger.specs.Naturals.{add_verdict, put_verdict};
 ghost use Rattle.rows.specs.Good.{begun_in};
-ghost use Rattle.rows.specs.Sound.{Sound};
-ghost use Rattle.table.specs.Promises.{Fitting, unless, followed};
-ghost use Rattle.table.specs.Views.{templates_in, room_of, ledger_in, wide_in, ByMeaning, Kept};
+ghost use Rattle.rows.specs.Answers.{unless, followed};
+ghost use Rattle.table.specs.Promises.{Fitting};
+ghost use Rattle.table.specs.Views.{templates_in, room_of, ledger_in, wide_in, Kept};
 
 use crate::cells::Begun;
 use crate::table::Table;
@@ -15,84 +15,58 @@ use extent::Extent;
 use faults::{Cause, Fault};
 use ledger::records::ItemRecord;
 use measure::{Measurer, measured};
-use rows::calls::{add_in, begun_at};
+use rows::state::Cell;
 
 // A kern is within ±16,777,215.
 fn kern_fits(sp: i64) -> bool
     ensures { result ≡ natural_fits sp }
 {
-    -16_777_215 <= sp && sp <= 16_777_215
+    (-16_777_215..=16_777_215).contains(&sp)
 }
 
 impl<'a, 'p, 'm, M: Measurer> Table<'a, 'p, 'm, M> {
     // Adds a measured item to the begun cell.
     fn add(&mut self, item: ItemRecord, width: M::Extent, word: &[u8]) -> Result<(), Fault>
-        requires begun { begun_in self.old.state.stage ≡ true }
+        requires begun { begun_in self.old.rows.draft.state.stage ≡ true }
         requires bytes { taken item ≡ length word.now }
         requires few { length word.now ≤ 255 }
-        ensures answer { (wide : Item → ℕ → ℤ) → Sound M.Extent.Extent.count M.Extent.Extent.num wide self.old.preamble self.old.state self.old.memory → Fitting M.Extent.Extent.count M.Extent.Extent.num wide width (meant self.old.preamble.text.now item word.now)
-            → result ≡ unless (add_verdict M.Extent.Extent.count wide (templates_in self.old) (room_of self.old) (ledger_in self.old) (meant self.old.preamble.text.now item word.now)) tt }
-        ensures ledger { ledger_in self.new ≡ followed result (ledger_in self.old) (on_open (puts (meant self.old.preamble.text.now item word.now) (ledger_in self.old)) (ledger_in self.old) (ledger_in self.old).hand) }
-        ensures sound { (wide : Item → ℕ → ℤ) → Sound M.Extent.Extent.count M.Extent.Extent.num wide self.old.preamble self.old.state self.old.memory → Fitting M.Extent.Extent.count M.Extent.Extent.num wide width (meant self.old.preamble.text.now item word.now) → Sound M.Extent.Extent.count M.Extent.Extent.num wide self.new.preamble self.new.state self.new.memory }
+        requires fits { Fitting M.Extent.Extent.count M.Extent.Extent.num (wide_in self.old) width (meant self.old.rows.preamble.text.now item word.now) }
+        ensures answer { result ≡ unless (add_verdict M.Extent.Extent.count (wide_in self.old) (templates_in self.old) (room_of self.old) (ledger_in self.old) (meant self.old.rows.preamble.text.now item word.now)) tt }
+        ensures ledger { ledger_in self.new ≡ followed result (ledger_in self.old) (on_open (puts (meant self.old.rows.preamble.text.now item word.now) (ledger_in self.old)) (ledger_in self.old) (ledger_in self.old).hand) }
         ensures kept { Kept self.old self.new }
     {
-        match add_in(
-            &mut self.state,
-            &mut self.memory,
-            &self.preamble,
-            item,
-            width,
-            word,
-        ) {
-            Some(fault) => Err(fault),
-            None => Ok(()),
-        }
+        self.rows.add(item, width, word)
     }
 
     /// Puts a word into the cell.
     pub fn put_word(&mut self, cell: &Begun, word: &[u8]) -> Result<(), Fault>
-        ensures answer { ByMeaning M.Extent.Extent.count M.Extent.Extent.num M.Extent.Extent.entered M.Measurer.meaning M.Measurer.blank self.old
-            → result ≡ unless (put_verdict M.Extent.Extent.count (wide_in M.Extent.Extent.count M.Extent.Extent.num M.Extent.Extent.entered M.Measurer.meaning M.Measurer.blank self.old) (M.Measurer.meaning self.old.measurer.now) (templates_in self.old) (room_of self.old) (ledger_in self.old) cell.now.column (cell_word word.now)) tt }
+        ensures answer { result ≡ unless (put_verdict M.Extent.Extent.count (wide_in self.old) (M.Measurer.meaning self.old.measurer.now) (templates_in self.old) (room_of self.old) (ledger_in self.old) cell.now.column (cell_word word.now)) tt }
         ensures ledger { ledger_in self.new ≡ followed result (ledger_in self.old) (on_open (puts (cell_word word.now) (ledger_in self.old)) (ledger_in self.old) (ledger_in self.old).hand) }
-        ensures meant { ByMeaning M.Extent.Extent.count M.Extent.Extent.num M.Extent.Extent.entered M.Measurer.meaning M.Measurer.blank self.old
-            → ByMeaning M.Extent.Extent.count M.Extent.Extent.num M.Extent.Extent.entered M.Measurer.meaning M.Measurer.blank self.new }
         ensures kept { Kept self.old self.new }
     {
-        if !begun_at(&self.state, cell.column) {
-            return Err(Cause::RowInHand.at(0));
-        }
+        self.rows.draft.state.check_cell(Cell::Begun(cell.column))?;
         let metrics = measured(self.measurer, word)?;
         self.add(ItemRecord::CellWord(word.len()), metrics.width, word)
     }
 
     /// Puts a space into the cell.
     pub fn put_space(&mut self, cell: &Begun) -> Result<(), Fault>
-        ensures answer { ByMeaning M.Extent.Extent.count M.Extent.Extent.num M.Extent.Extent.entered M.Measurer.meaning M.Measurer.blank self.old
-            → result ≡ unless (put_verdict M.Extent.Extent.count (wide_in M.Extent.Extent.count M.Extent.Extent.num M.Extent.Extent.entered M.Measurer.meaning M.Measurer.blank self.old) (M.Measurer.meaning self.old.measurer.now) (templates_in self.old) (room_of self.old) (ledger_in self.old) cell.now.column space) tt }
+        ensures answer { result ≡ unless (put_verdict M.Extent.Extent.count (wide_in self.old) (M.Measurer.meaning self.old.measurer.now) (templates_in self.old) (room_of self.old) (ledger_in self.old) cell.now.column space) tt }
         ensures ledger { ledger_in self.new ≡ followed result (ledger_in self.old) (on_open (puts space (ledger_in self.old)) (ledger_in self.old) (ledger_in self.old).hand) }
-        ensures meant { ByMeaning M.Extent.Extent.count M.Extent.Extent.num M.Extent.Extent.entered M.Measurer.meaning M.Measurer.blank self.old
-            → ByMeaning M.Extent.Extent.count M.Extent.Extent.num M.Extent.Extent.entered M.Measurer.meaning M.Measurer.blank self.new }
         ensures kept { Kept self.old self.new }
     {
-        if !begun_at(&self.state, cell.column) {
-            return Err(Cause::RowInHand.at(0));
-        }
+        self.rows.draft.state.check_cell(Cell::Begun(cell.column))?;
         let width = self.measurer.space();
         self.add(ItemRecord::Space, width, b"")
     }
 
     /// Puts a kern into the cell.
     pub fn put_kern(&mut self, cell: &Begun, sp: i64) -> Result<(), Fault>
-        ensures answer { ByMeaning M.Extent.Extent.count M.Extent.Extent.num M.Extent.Extent.entered M.Measurer.meaning M.Measurer.blank self.old
-            → result ≡ unless (put_verdict M.Extent.Extent.count (wide_in M.Extent.Extent.count M.Extent.Extent.num M.Extent.Extent.entered M.Measurer.meaning M.Measurer.blank self.old) (M.Measurer.meaning self.old.measurer.now) (templates_in self.old) (room_of self.old) (ledger_in self.old) cell.now.column (kern sp)) tt }
+        ensures answer { result ≡ unless (put_verdict M.Extent.Extent.count (wide_in self.old) (M.Measurer.meaning self.old.measurer.now) (templates_in self.old) (room_of self.old) (ledger_in self.old) cell.now.column (kern sp)) tt }
         ensures ledger { ledger_in self.new ≡ followed result (ledger_in self.old) (on_open (puts (kern sp) (ledger_in self.old)) (ledger_in self.old) (ledger_in self.old).hand) }
-        ensures meant { ByMeaning M.Extent.Extent.count M.Extent.Extent.num M.Extent.Extent.entered M.Measurer.meaning M.Measurer.blank self.old
-            → ByMeaning M.Extent.Extent.count M.Extent.Extent.num M.Extent.Extent.entered M.Measurer.meaning M.Measurer.blank self.new }
         ensures kept { Kept self.old self.new }
     {
-        if !begun_at(&self.state, cell.column) {
-            return Err(Cause::RowInHand.at(0));
-        }
+        self.rows.draft.state.check_cell(Cell::Begun(cell.column))?;
         if !kern_fits(sp) {
             return Err(Cause::OutOfRange.at(0));
         }
@@ -102,16 +76,11 @@ impl<'a, 'p, 'm, M: Measurer> Table<'a, 'p, 'm, M> {
 
     /// Puts a fill into the cell.
     pub fn put_hfil(&mut self, cell: &Begun) -> Result<(), Fault>
-        ensures answer { ByMeaning M.Extent.Extent.count M.Extent.Extent.num M.Extent.Extent.entered M.Measurer.meaning M.Measurer.blank self.old
-            → result ≡ unless (put_verdict M.Extent.Extent.count (wide_in M.Extent.Extent.count M.Extent.Extent.num M.Extent.Extent.entered M.Measurer.meaning M.Measurer.blank self.old) (M.Measurer.meaning self.old.measurer.now) (templates_in self.old) (room_of self.old) (ledger_in self.old) cell.now.column hfil) tt }
+        ensures answer { result ≡ unless (put_verdict M.Extent.Extent.count (wide_in self.old) (M.Measurer.meaning self.old.measurer.now) (templates_in self.old) (room_of self.old) (ledger_in self.old) cell.now.column hfil) tt }
         ensures ledger { ledger_in self.new ≡ followed result (ledger_in self.old) (on_open (puts hfil (ledger_in self.old)) (ledger_in self.old) (ledger_in self.old).hand) }
-        ensures meant { ByMeaning M.Extent.Extent.count M.Extent.Extent.num M.Extent.Extent.entered M.Measurer.meaning M.Measurer.blank self.old
-            → ByMeaning M.Extent.Extent.count M.Extent.Extent.num M.Extent.Extent.entered M.Measurer.meaning M.Measurer.blank self.new }
         ensures kept { Kept self.old self.new }
     {
-        if !begun_at(&self.state, cell.column) {
-            return Err(Cause::RowInHand.at(0));
-        }
+        self.rows.draft.state.check_cell(Cell::Begun(cell.column))?;
         let width = M::Extent::zero();
         self.add(ItemRecord::Hfil, width, b"")
     }

@@ -1,20 +1,20 @@
-ghost use Rattle.std.specs.Prelude.{◌≡◌, ◌+◌, ◌≤◌, length};
-ghost use Rattle.rows.specs.Good.{Sane};
+ghost use Rattle.std.specs.Prelude.{◌≤◌, length};
+ghost use Rattle.ledger.specs.Naturals.{wide_by};
+ghost use Rattle.rows.specs.Columns.{columns_in as templates_on};
+ghost use Rattle.rows.specs.Sound.{Sound};
 
+use extent::Extent;
 use faults::Fault;
 use measure::Measurer;
-use rows::preamble::Preamble;
-use rows::state::{Memory, State};
+use rows::rows::Rows;
 
-/// A table. What it answers depends only on its preamble, its room and its ledger.
+/// A table. What it answers depends only on its preamble, its room and its ledger; the widths that it keeps are natural
+/// widths by the meaning of its measurer.
 #[derive(Drop)]
 pub struct Table<'a, 'p, 'm, M: Measurer> {
-    pub(crate) memory: Memory<'a, M::Extent>,
-    pub(crate) preamble: Preamble<'p, M::Extent>,
+    pub(crate) rows: Rows<'a, 'p, M::Extent>,
     pub(crate) measurer: &'m M,
-    pub(crate) state: State<M::Extent>,
     pub(crate) made: Result<usize, Fault>,
-    ghost sane: { Sane state memory preamble },
-    ghost few: { length preamble.columns.now ≤ 32 },
-    ghost gaps: { length preamble.gaps.now ≡ length preamble.columns.now + 1 },
+    pub ghost few: { length (templates_on rows.preamble.columns.now) ≤ 32 },
+    pub ghost meant: { Sound M.Extent.Extent.count M.Extent.Extent.num (wide_by M.Extent.Extent.num M.Extent.Extent.entered (M.Measurer.meaning measurer.now) (M.Measurer.blank measurer.now)) rows.preamble rows.draft.state rows.draft.memory },
 }

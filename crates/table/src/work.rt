@@ -1,4 +1,5 @@
-/// Memory that the host lends while columns are settled: what it holds before is read by no answer.
+/// Memory that the host lends while columns are settled: what it holds before is read by no answer. Arrays, since the
+/// device has no heap.
 #[derive(Drop)]
 pub struct Workspace<E> {
     pub(crate) cells: [Option<E>; 1024],

@@ -6,6 +6,7 @@ use Rattle.std.proofs.ByRecursion.{All-take, All-drop, All-push, All-weaker}
 use Rattle.ledger.specs.declared.records.ItemRecord.{ItemRecord}
 use Rattle.ledger.specs.declared.records.ItemRecord.TheVariants.{Space, CellWord, TemplateWord, Kern, Hfil}
 use Rattle.ledger.specs.declared.records.Column.{Column}
+use Rattle.ledger.specs.declared.records.ColumnRecord.{ColumnRecord}
 use Rattle.ledger.specs.Chunks.{chunks, total}
 use Rattle.ledger.specs.Ledger.{Item, template_word}
 use Rattle.ledger.specs.Calls.{Template}
@@ -14,8 +15,8 @@ use Rattle.ledger.proofs.Cuts.{chunks-append, length-chunks, chunks-one}
 use Rattle.ledger.specs.Naturals.{natural}
 use Rattle.extent.specs.Sizes.{Within}
 use Rattle.std.proofs.lemmas.Int.{ints}
-use Rattle.templates.specs.Kept.{Fine, Lies, Sized}
-use Rattle.templates.specs.Readings.{part_of}
+use Rattle.templates.specs.Kept.{Fine, Lies, LiesIn, Sized}
+use Rattle.templates.specs.Readings.{part_of, template_by}
 
 -- one more element at the end of a part
 pub part-more : {X : Type 0} (xs : List X) (from n : ℕ) (x : X) → from + n < length xs → take (n + 1) (drop from (set xs (from + n) x)) ≡ take n (drop from xs) ++ x ∷ []
@@ -104,18 +105,18 @@ template_whole text ps p c l =
     let b : (c.from + c.u) + c.v ≤ p = omega (arith, l.within) in
     rw (part-front ps c.from c.u p a, part-front ps (c.from + c.u) c.v p b)
 
-templates-whole : (text : List ℕ) (ps : List ItemRecord) (p : ℕ) (cs : List Column) → AllByRecursion (Lies p) cs → map (template_in text (take p ps)) cs ≡ map (template_in text ps) cs
+templates-whole : {E : Type 0} (text : List ℕ) (ps : List ItemRecord) (p : ℕ) (cs : List (ColumnRecord E)) → AllByRecursion (LiesIn p) cs → map (template_by text (take p ps)) cs ≡ map (template_by text ps) cs
 templates-whole text ps p [] l = refl
 templates-whole text ps p (c ∷ cs) l =
-    ap (λ (t : Template). t ∷ map (template_in text (take p ps)) cs) (template_whole text ps p c l.0) ∙ ap (λ (ts : List Template). template_in text ps c ∷ ts) (templates-whole text ps p cs l.1)
+    ap (λ (t : Template). t ∷ map (template_by text (take p ps)) cs) (template_whole text ps p c.template l.0) ∙ ap (λ (ts : List Template). template_by text ps c ∷ ts) (templates-whole text ps p cs l.1)
 
 pub lies-further : (p q : ℕ) (c : Column) → p ≤ q → Lies p c → Lies q c
 lies-further p q c h l = record { within = omega (arith, l.within); few-u = l.few-u; few-v = l.few-v }
 
-pub lie-further : (p q : ℕ) (cs : List Column) → p ≤ q → AllByRecursion (Lies p) cs → AllByRecursion (Lies q) cs
-lie-further p q cs h = All-weaker (Lies p) (Lies q) (λ c. lies-further p q c h) cs
+pub lie-further : {E : Type 0} (p q : ℕ) (cs : List (ColumnRecord E)) → p ≤ q → AllByRecursion (LiesIn p) cs → AllByRecursion (LiesIn q) cs
+lie-further p q cs h = All-weaker (LiesIn p) (LiesIn q) (λ c. lies-further p q c.template h) cs
 
-pub templates-further : (text : List ℕ) (ps : List ItemRecord) (p q : ℕ) (cs : List Column) → p ≤ q → AllByRecursion (Lies p) cs → map (template_in text (take q ps)) cs ≡ map (template_in text (take p ps)) cs
+pub templates-further : {E : Type 0} (text : List ℕ) (ps : List ItemRecord) (p q : ℕ) (cs : List (ColumnRecord E)) → p ≤ q → AllByRecursion (LiesIn p) cs → map (template_by text (take q ps)) cs ≡ map (template_by text (take p ps)) cs
 templates-further text ps p q cs h l = templates-whole text ps q cs (lie-further p q cs h l) ∙ sym (templates-whole text ps p cs l)
 
 -- .. and over the bytes that were read
@@ -125,10 +126,10 @@ template_cut text b p ps c f =
     let v = All-take (Fine text b) c.v (drop (c.from + c.u) (take p ps)) (All-drop (Fine text b) (c.from + c.u) (take p ps) f) in
     rw (fine-decoded text b (take c.u (drop c.from (take p ps))) [] u, fine-decoded text b (take c.v (drop (c.from + c.u) (take p ps))) [] v)
 
-pub templates-cut : (text : List ℕ) (b p : ℕ) (ps : List ItemRecord) (cs : List Column) → AllByRecursion (Fine text b) (take p ps) → map (template_in (take b text) (take p ps)) cs ≡ map (template_in text (take p ps)) cs
+pub templates-cut : {E : Type 0} (text : List ℕ) (b p : ℕ) (ps : List ItemRecord) (cs : List (ColumnRecord E)) → AllByRecursion (Fine text b) (take p ps) → map (template_by (take b text) (take p ps)) cs ≡ map (template_by text (take p ps)) cs
 templates-cut text b p ps [] f = refl
 templates-cut text b p ps (c ∷ cs) f =
-    ap (λ (t : Template). t ∷ map (template_in (take b text) (take p ps)) cs) (template_cut text b p ps c f) ∙ ap (λ (ts : List Template). template_in text (take p ps) c ∷ ts) (templates-cut text b p ps cs f)
+    ap (λ (t : Template). t ∷ map (template_by (take b text) (take p ps)) cs) (template_cut text b p ps c.template f) ∙ ap (λ (ts : List Template). template_by text (take p ps) c ∷ ts) (templates-cut text b p ps cs f)
 
 -- fine items, each within a word's width, are together within as many
 fine-any : (text : List ℕ) (b : ℕ) (x : ItemRecord) (w : List ℕ) → Fine text b x → meant text x w ≡ meant text x []

@@ -4,3 +4,4 @@ pub mod Moves
 pub mod Finished
 pub mod Sizing
 pub mod Whole
+pub mod TemplateAt

@@ -1,35 +1,34 @@
 -- A preamble from its first token to its last. Assumes nothing.
-use Rattle.std.proofs.Common.{◌≡◌, ℕ, zero, suc, ◌+◌, ◌-◌, ◌<◌, ◌≤◌, false, List, [], ◌∷◌, map, length, get_or, take, drop, ℤ, pos, Ok, Err, Result, sym, refl, ap, ◌∙◌, subst, ⊎_elim, arith}
+use Rattle.std.proofs.Common.{◌≡◌, ℕ, zero, suc, ◌+◌, ◌-◌, ◌<◌, ◌≤◌, false, List, [], ◌∷◌, map, length, get_or, take, drop, ℤ, pos, Ok, Err, Result, sym, refl, ap, ◌∙◌, subst, ⊎_elim, arith, Continue, Break}
 use Rattle.std.specs.List.{AllByRecursion}
 use Rattle.std.proofs.lemmas.Int.{ints}
-use Rattle.std.proofs.lemmas.List.{length-set, length-map, length-take-le, take_more_set, get_or-take, get_or-map, get_or_past}
-use Rattle.std.proofs.ByRecursion.{All-get_or, All-map, All-take, All-drop}
+use Rattle.std.proofs.lemmas.List.{length-map, length-take-le, get_or-take, get_or-map, get_or_past}
+use Rattle.std.proofs.ByRecursion.{All-get_or, All-weaker, All-map, All-take, All-drop}
 use Rattle.std.proofs.lemmas.Bool.{cases_lt}
+use Rattle.std.specs.declared.ops.ControlFlow.{ControlFlow}
 use Rattle.faults.specs.declared.Fault.{Fault}
 use Rattle.extent.specs.Sizes.{Within}
 use Rattle.lengths.specs.declared.gap.Gap.{Gap}
 use Rattle.lengths.specs.Gaps.{Parts, parts_of}
 use Rattle.ledger.specs.declared.records.ItemRecord.{ItemRecord}
-use Rattle.ledger.specs.declared.records.Column.{Column}
+use Rattle.ledger.specs.declared.records.ColumnRecord.{ColumnRecord}
 use Rattle.ledger.specs.declared.records.Owed.{Owed}
 use Rattle.ledger.specs.Chunks.{chunks}
 use Rattle.ledger.specs.Ledger.{Item}
 use Rattle.ledger.specs.Calls.{Template, template_at}
-use Rattle.ledger.specs.Items.{template_in}
 use Rattle.ledger.specs.Naturals.{natural}
 use Rattle.ledger.specs.Preambles.{Reading, Preamble, Outcome, goes_on, ends, refuses, onward, step, read_by, preamble_of}
 use Rattle.ledger.proofs.Beyonds.{natural-none}
 use Rattle.templates.specs.declared.memory.Templates.{Templates}
 use Rattle.templates.specs.declared.memory.Hand.{Hand}
 use Rattle.templates.specs.declared.memory.Read.{Read}
-use Rattle.templates.specs.declared.memory.Next.TheVariants.{GoesOn, Ends, Refuses}
-use Rattle.templates.specs.Kept.{Fine, Lies, Sized, Sound, Done, Turns, Kept, Widths, u_stored, v_stored, u_natural, v_natural}
-use Rattle.templates.specs.Readings.{templates_in, gaps_in, reading_of, preamble_by, read_in, with_start}
+use Rattle.templates.specs.Kept.{Fine, LiesIn, Sized, Sound, Done, Turns, Kept, Widths, u_stored, v_stored, u_natural, v_natural}
+use Rattle.templates.specs.Readings.{template_by, gap_by, empty_with, templates_in, gaps_in, reading_of, preamble_by, read_in, with_start}
 use Rattle.templates.proofs.Fills.{fine-total, templates-cut, part-near}
 
 -- nothing is read yet
 abbrev pub begun : {E : Type 0} → Gap → Owed E → Hand E
-begun g w = record { place = 0; columns = 0; from = 0; u = 0; v = 0; marked = false; gap = g; widths = w }
+begun g w = record { place = 0; columns = 0; marked = false; column = empty_with 0 w g }
 
 abbrev pub unread : Parts → Reading
 unread g = record { place = 0; templates = []; gaps = []; u = []; v = []; marked = false; gap = g }
@@ -38,12 +37,11 @@ pub begun-reading : {E : Type 0} (text : List ℕ) (g : Gap) (w : Owed E) (t : T
 unfolding chunks
 begun-reading text g w t = refl
 
-pub begun-sound : {E : Type 0} (count : ℕ) (num : E → ℕ → ℤ) (wide : Item → ℕ → ℤ) (text : List ℕ) (g : Gap) (w : Owed E) (t : Templates E) → 0 < length t.gaps
-    → ((k : ℕ) → k < count → num w.u k ≡ pos 0) → ((k : ℕ) → k < count → num w.v k ≡ pos 0) → Sound count num wide text (parts_of g) (begun g w) (with_start t g)
+pub begun-sound : {E : Type 0} (count : ℕ) (num : E → ℕ → ℤ) (wide : Item → ℕ → ℤ) (text : List ℕ) (g : Gap) (w : Owed E) (t : Templates E) → ((k : ℕ) → k < count → num w.u k ≡ pos 0) → ((k : ℕ) → k < count → num w.v k ≡ pos 0) → Sound count num wide text (parts_of g) (begun g w) (with_start t g)
 unfolding chunks natural
-begun-sound count num wide text g w t lt zu zv = record {
-  fits = record { columns = omega arith; widths = omega arith; gaps = simp length-set (omega arith); pieces = omega arith; few = omega arith; below = omega arith; few-u = omega arith; few-v = omega arith; bare = λ _. refl; lies = tt };
-  holds = record { first = ap (map parts_of) (take_more_set t.gaps 0 g lt); us = λ k _. refl; vs = λ k _. refl; inside = omega arith };
+begun-sound count num wide text g w t zu zv = record {
+  fits = record { columns = omega arith; pieces = omega arith; few = omega arith; below = omega arith; few-u = omega arith; few-v = omega arith; bare = λ _. refl; lies = tt };
+  holds = record { first = refl; us = λ k _. refl; vs = λ k _. refl; inside = omega arith };
   pieces = tt;
   wide-u = zu;
   wide-v = zv;
@@ -83,10 +81,10 @@ module _ {E : Type 0} (count : ℕ) (num : E → ℕ → ℤ) (wide : Item → �
   pub preamble-read : preamble_by (take d.bytes text) t d ≡ preamble_by text t d
   preamble-read = ap (λ (ts : List Template). record { templates = ts; gaps = gaps_in d.columns t; bytes = d.bytes }) templates-read
 
-  column-at : (c : ℕ) (e : Column) → c < d.columns → Lies d.pieces (get_or t.columns c e)
+  column-at : (c : ℕ) (e : ColumnRecord E) → c < d.columns → LiesIn d.pieces (get_or t.columns c e)
   column-at c e lt =
       let len = length-take-le d.columns t.columns done.columns in
-      subst (Lies d.pieces) (get_or-take d.columns t.columns c e lt) (All-get_or (Lies d.pieces) (take d.columns t.columns) c e (omega arith) done.lies)
+      subst (LiesIn d.pieces) (get_or-take d.columns t.columns c e lt) (All-get_or (LiesIn d.pieces) (take d.columns t.columns) c e (omega arith) done.lies)
 
   piece-at : (i : ℕ) (e : ItemRecord) → i < d.pieces → Fine text d.bytes (get_or t.pieces i e)
   piece-at i e lt =
@@ -103,33 +101,23 @@ module _ {E : Type 0} (count : ℕ) (num : E → ℕ → ℤ) (wide : Item → �
     columns = column-at;
     bare = fine-total text d.bytes (take d.pieces t.pieces) done.pieces;
     words = λ i a m e lt is. subst (Fine text d.bytes) is (piece-at i e lt);
-    gaps = All-map (λ (g : Parts). Within 16777215 g.natural) parts_of (take (d.columns + 1) t.gaps) (all_any (λ (g : Gap). Within 16777215 (parts_of g).natural) gap_within (take (d.columns + 1) t.gaps));
+    gaps = (gap_within t.start, All-map (λ (g : Parts). Within 16777215 g.natural) gap_by (take d.columns t.columns) (all_any (λ (x : ColumnRecord E). Within 16777215 (gap_by x).natural) (λ x. gap_within x.gap) (take d.columns t.columns)));
     long-columns = done.columns;
-    long-widths = done.widths;
-    long-gaps = done.gaps;
     long-pieces = done.enough;
   }
 
-  -- the template of a column
-  template_at_lem : (c : ℕ) → c < d.columns → template_at (templates_in text d.pieces d.columns t) c ≡ template_in text (take d.pieces t.pieces) (get_or t.columns c (record { from = 0; u = 0; v = 0 }))
-  template_at_lem c lt =
-      let len = length-take-le d.columns t.columns done.columns in
-      let F = template_in text (take d.pieces t.pieces) in
-      get_or-map F (take d.columns t.columns) c (record { from = 0; u = 0; v = 0 }) (record { u = []; v = [] }) (omega arith)
-      ∙ ap F (get_or-take d.columns t.columns c (record { from = 0; u = 0; v = 0 }) lt)
-
   -- an element of a list that two functions agree on
-  stored_at : (f : Owed E → ℤ) (h : Template → ℤ) (ts : List Template) → map f (take d.columns t.widths) ≡ map h ts → length ts ≡ d.columns → (c : ℕ) (e : Owed E) → c < d.columns
-      → f (get_or t.widths c e) ≡ h (template_at ts c)
+  stored_at : (f : ColumnRecord E → ℤ) (h : Template → ℤ) (ts : List Template) → map f (take d.columns t.columns) ≡ map h ts → length ts ≡ d.columns → (c : ℕ) (e : ColumnRecord E) → c < d.columns
+      → f (get_or t.columns c e) ≡ h (template_at ts c)
   stored_at f h ts same long c e lt =
-      let len = length-take-le d.columns t.widths done.widths in
-      ap f (sym (get_or-take d.columns t.widths c e lt))
-      ∙ sym (get_or-map f (take d.columns t.widths) c e (pos 0) (omega arith))
+      let len = length-take-le d.columns t.columns done.columns in
+      ap f (sym (get_or-take d.columns t.columns c e lt))
+      ∙ sym (get_or-map f (take d.columns t.columns) c e (pos 0) (omega arith))
       ∙ ap (λ (zs : List ℤ). get_or zs c (pos 0)) same
       ∙ get_or-map h ts c (record { u = []; v = [] }) (pos 0) (omega arith)
 
   length-read : length (templates_in text d.pieces d.columns t) ≡ d.columns
-  length-read = length-map (take d.columns t.columns) (template_in text (take d.pieces t.pieces)) ∙ length-take-le d.columns t.columns done.columns
+  length-read = length-map (take d.columns t.columns) (template_by text (take d.pieces t.pieces)) ∙ length-take-le d.columns t.columns done.columns
 
   fine-in : (from m : ℕ) → AllByRecursion (Fine text d.bytes) (take m (drop from (take d.pieces t.pieces)))
   fine-in from m = All-take (Fine text d.bytes) m (drop from (take d.pieces t.pieces)) (All-drop (Fine text d.bytes) from (take d.pieces t.pieces) done.pieces)
@@ -140,28 +128,34 @@ module _ {E : Type 0} (count : ℕ) (num : E → ℕ → ℤ) (wide : Item → �
   past : (c : ℕ) → d.columns ≤ c → template_at (templates_in text d.pieces d.columns t) c ≡ record { u = []; v = [] }
   past c le = get_or_past (templates_in text d.pieces d.columns t) c (record { u = []; v = [] }) (let l = length-read in omega arith)
 
-  near-u : Sized count wide text → (c k : ℕ) → k < count → Within 68719476736 (natural wide (template_at (templates_in text d.pieces d.columns t) c).u k)
-  near-u sized c k kc = ⊎_elim
-      (λ lt. let col = get_or t.columns c (record { from = 0; u = 0; v = 0 }) in
-      subst (λ (x : Template). Within 68719476736 (natural wide x.u k)) (sym (template_at_lem c lt))
-      (part-near count wide text d.bytes k sized kc col.u (drop col.from (take d.pieces t.pieces)) (column-at c (record { from = 0; u = 0; v = 0 }) lt).few-u (fine-in col.from col.u)))
-      (λ le. subst (λ (x : Template). Within 68719476736 (natural wide x.u k)) (sym (past c le)) (nothing k))
-      (cases_lt c d.columns)
+  -- neither part of a template is wide
+  abbrev Slim : ℕ → Template → Type 0
+  Slim k x = Within 68719476736 (natural wide x.u k) × Within 68719476736 (natural wide x.v k)
 
-  near-v : Sized count wide text → (c k : ℕ) → k < count → Within 68719476736 (natural wide (template_at (templates_in text d.pieces d.columns t) c).v k)
-  near-v sized c k kc = ⊎_elim
-      (λ lt. let col = get_or t.columns c (record { from = 0; u = 0; v = 0 }) in
-      subst (λ (x : Template). Within 68719476736 (natural wide x.v k)) (sym (template_at_lem c lt))
-      (part-near count wide text d.bytes k sized kc col.v (drop (col.from + col.u) (take d.pieces t.pieces)) (column-at c (record { from = 0; u = 0; v = 0 }) lt).few-v (fine-in (col.from + col.u) col.v)))
-      (λ le. subst (λ (x : Template). Within 68719476736 (natural wide x.v k)) (sym (past c le)) (nothing k))
-      (cases_lt c d.columns)
+  slim-column : Sized count wide text → (k : ℕ) → k < count → (x : ColumnRecord E) → LiesIn d.pieces x → Slim k (template_by text (take d.pieces t.pieces) x)
+  slim-column sized k kc x l =
+      let q = x.template in
+      let ps = take d.pieces t.pieces in (
+        part-near count wide text d.bytes k sized kc q.u (drop q.from ps) l.few-u (fine-in q.from q.u),
+        part-near count wide text d.bytes k sized kc q.v (drop (q.from + q.u) ps) l.few-v (fine-in (q.from + q.u) q.v),
+      )
+
+  slim : Sized count wide text → (c k : ℕ) → k < count → Slim k (template_at (templates_in (take d.bytes text) d.pieces d.columns t) c)
+  slim sized c k kc =
+      let cs = take d.columns t.columns in
+      let F = template_by text (take d.pieces t.pieces) in
+      let all = All-map (Slim k) F cs (All-weaker (LiesIn d.pieces) (λ x. Slim k (F x)) (slim-column sized k kc) cs done.lies) in
+      let len = length-read in
+      subst (λ (ts : List Template). Slim k (template_at ts c)) (sym templates-read)
+      (⊎_elim (λ lt. All-get_or (Slim k) (templates_in text d.pieces d.columns t) c (record { u = []; v = [] }) (omega arith) all)
+      (λ le. subst (Slim k) (sym (past c le)) (nothing k, nothing k)) (cases_lt c d.columns))
 
   pub widths : Sized count wide text → Widths count num wide text t d
   widths sized = record {
     us = λ c k e kc lt. stored_at (u_stored num k) (u_natural wide k) (templates_in text d.pieces d.columns t) (done.holds.us k kc) length-read c e lt ∙ ap (λ (ts : List Template). natural wide (template_at ts c).u k) (sym templates-read);
     vs = λ c k e kc lt. stored_at (v_stored num k) (v_natural wide k) (templates_in text d.pieces d.columns t) (done.holds.vs k kc) length-read c e lt ∙ ap (λ (ts : List Template). natural wide (template_at ts c).v k) (sym templates-read);
-    small_u = λ c k kc. subst (λ (ts : List Template). Within 68719476736 (natural wide (template_at ts c).u k)) (sym templates-read) (near-u sized c k kc);
-    small_v = λ c k kc. subst (λ (ts : List Template). Within 68719476736 (natural wide (template_at ts c).v k)) (sym templates-read) (near-v sized c k kc);
+    small_u = λ c k kc. (slim sized c k kc).0;
+    small_v = λ c k kc. (slim sized c k kc).1;
   }
 
 -- a reading on its way: with enough tokens left to take, it gives the preamble of the text
@@ -172,44 +166,55 @@ pub record Underway {E X : Type 0} (count : ℕ) (num : E → ℕ → ℤ) (wide
   pub sound : Sound count num wide text start h t
 
 module _ {E X : Type 0} (count : ℕ) (num : E → ℕ → ℤ) (wide : Item → ℕ → ℤ) (text : List ℕ) (meaning : List ℕ → Result X ℕ) where
-  pub begins : (g : Gap) (w : Owed E) (t : Templates E) → 0 < length t.gaps → ((k : ℕ) → k < count → num w.u k ≡ pos 0) → ((k : ℕ) → k < count → num w.v k ≡ pos 0)
+  pub begins : (g : Gap) (w : Owed E) (t : Templates E) → ((k : ℕ) → k < count → num w.u k ≡ pos 0) → ((k : ℕ) → k < count → num w.v k ≡ pos 0)
       → Underway count num wide text meaning (parts_of g) (begun g w) (with_start t g)
-  begins g w t lt zu zv = record {
+  begins g w t zu zv = record {
     tokens = suc (length text);
     enough = omega arith;
     same = ap (read_by text meaning (suc (length text))) (begun-reading text g w (with_start t g));
-    sound = begun-sound count num wide text g w t lt zu zv;
+    sound = begun-sound count num wide text g w t zu zv;
   }
 
   module _ (start : Parts) (h : Hand E) (t t' : Templates E) (way : Underway count num wide text meaning start h t) where
-    pub goes : (q : Hand E) → Turns count num wide text h t (step text meaning (reading_of text h t)) t' (GoesOn q) → Underway count num wide text meaning start q t'
-    goes q turn =
-        let on = turn.keeps start way.sound in
-        let e = way.enough in
-        let less = on.0 in
-        let in' = on.1.holds.inside in
-        let was = way.sound.holds.inside in
-        record {
-          tokens = way.tokens - 1;
-          enough = omega arith;
-          same = read-on text meaning (preamble_of text meaning start) way.tokens (reading_of text h t) (reading_of text q t') (omega arith) (sym turn.is) way.same;
-          sound = on.1;
-        }
+    module _ (q : Hand E) (s : ControlFlow Read (Hand E)) (is : s ≡ Continue q) (turns : Turns count num wide text h t (step text meaning (reading_of text h t)) t' (Ok s)) where
+      turn : Turns count num wide text h t (step text meaning (reading_of text h t)) t' (Ok (Continue q))
+      turn = subst (λ (x : ControlFlow Read (Hand E)). Turns count num wide text h t (step text meaning (reading_of text h t)) t' (Ok x)) is turns
 
-    pub nearer : (q : Hand E) → Turns count num wide text h t (step text meaning (reading_of text h t)) t' (GoesOn q) → length text - q.place < length text - h.place
-    nearer q turn =
-        let on = turn.keeps start way.sound in
-        let less = on.0 in
-        let in' = on.1.holds.inside in
-        omega arith
+      on : (h.place < q.place) × Sound count num wide text start q t'
+      on = turn.keeps start way.sound
 
-    pub ends-in : (d : Read) → Turns count num wide text h t (step text meaning (reading_of text h t)) t' (Ends d) → read_in text t' (Ok d) ≡ preamble_of text meaning start
-    ends-in d turn =
-        let e = way.enough in
-        ap Ok (preamble-read count num wide text start d t' (turn.keeps start way.sound))
-        ∙ read-ends text meaning (preamble_of text meaning start) way.tokens (reading_of text h t) (preamble_by text t' d) (omega arith) (sym turn.is) way.same
+      pub goes : Underway count num wide text meaning start q t'
+      goes =
+          let e = way.enough in
+          let less = on.0 in
+          let in' = on.1.holds.inside in
+          record {
+            tokens = way.tokens - 1;
+            enough = omega arith;
+            same = read-on text meaning (preamble_of text meaning start) way.tokens (reading_of text h t) (reading_of text q t') (omega arith) (sym turn.is) way.same;
+            sound = on.1;
+          }
 
-    pub refuses-in : (f : Fault) → Turns count num wide text h t (step text meaning (reading_of text h t)) t' (Refuses f) → read_in text t' (Err f) ≡ preamble_of text meaning start
+      pub nearer : length text - q.place < length text - h.place
+      nearer =
+          let less = on.0 in
+          let in' = on.1.holds.inside in
+          omega arith
+
+    module _ (d : Read) (s : ControlFlow Read (Hand E)) (is : s ≡ Break d) (turns : Turns count num wide text h t (step text meaning (reading_of text h t)) t' (Ok s)) where
+      last : Turns count num wide text h t (step text meaning (reading_of text h t)) t' (Ok (Break d))
+      last = subst (λ (x : ControlFlow Read (Hand E)). Turns count num wide text h t (step text meaning (reading_of text h t)) t' (Ok x)) is turns
+
+      pub done-in : Done count num wide text start d t'
+      done-in = last.keeps start way.sound
+
+      pub ends-in : read_in text t' (Ok d) ≡ preamble_of text meaning start
+      ends-in =
+          let e = way.enough in
+          ap Ok (preamble-read count num wide text start d t' done-in)
+          ∙ read-ends text meaning (preamble_of text meaning start) way.tokens (reading_of text h t) (preamble_by text t' d) (omega arith) (sym last.is) way.same
+
+    pub refuses-in : (f : Fault) → Turns count num wide text h t (step text meaning (reading_of text h t)) t' (Err f) → read_in text t' (Err f) ≡ preamble_of text meaning start
     refuses-in f turn =
         let e = way.enough in
         read-refuses text meaning (preamble_of text meaning start) way.tokens (reading_of text h t) f (omega arith) (sym turn.is) way.same

@@ -1,83 +1,72 @@
 //! One more item of the template in hand.
-ghost use Rattle.std.specs.Prelude.{◌≡◌, ℕ, ◌<◌, true, false, List, [], ℤ, nat_le};
+ghost use Rattle.std.specs.Prelude.{◌≡◌, ℕ, ◌≤◌, ◌<◌, true, false, List, [], ℤ, nat_le, if◌then◌else◌};
 ghost use Rattle.ledger.specs.Ledger.{Item};
 ghost use Rattle.ledger.specs.Items.{meant};
 ghost use Rattle.ledger.specs.Preambles.{taking};
-ghost use Rattle.templates.specs.Kept.{Fits, Suits, Turns};
-ghost use Rattle.templates.specs.Readings.{reading_of};
+ghost use Rattle.templates.specs.Kept.{Adds, Fits, Suits, Turns};
+ghost use Rattle.templates.specs.Readings.{reading_of, longer_u, longer_v};
 
-use crate::memory::{Hand, Next, Piece, Templates};
-use crate::writes::put_item;
+use crate::memory::{Hand, Piece, Step, Templates};
 use extent::Extent;
-use faults::Cause;
-use ledger::records::Owed;
+use faults::{Cause, Fault};
+use ledger::records::{Column, ColumnRecord, Owed};
+use std::ops::ControlFlow;
 
 /// A part has at most this many items.
 const LONGEST_PART: usize = 64;
 
-/// Whether a part has all the items that it may have.
-fn is_full(items: usize) -> bool
-    ensures { result ≡ nat_le 64 items }
-{
-    items >= LONGEST_PART
-}
-
-/// One more item before `#`.
-fn add_u<E: Extent>(into: &mut Templates<E>, hand: Hand<E>, piece: Piece<E>) -> Next<E>
-    requires fits { Fits hand into.old }
-    requires before { hand.marked ≡ false }
-    ensures { (text : List ℕ) (wide : Item → ℕ → ℤ) → Suits E.count E.num wide text hand.place piece → Turns E.count E.num wide text hand into.old (taking (reading_of text hand into.old) (meant text piece.item []) piece.last piece.end) into.new result }
-{
-    if is_full(hand.u) {
-        return Next::Refuses(Cause::Full.at(piece.last));
+impl<E: Extent> Hand<E> {
+    /// Whether the part in hand has all the items that it may have.
+    fn is_full(self) -> bool
+        ensures { result ≡ nat_le 64 (if self.marked then self.column.template.v else self.column.template.u) }
+    {
+        let Column { u, v, .. } = self.column.template;
+        let items = if self.marked { v } else { u };
+        items >= LONGEST_PART
     }
-    put_item(into, hand.from + hand.u, piece.item);
-    let widths = hand.widths;
-    Next::GoesOn(Hand {
-        place: piece.end,
-        u: hand.u + 1,
-        widths: Owed {
-            u: widths.u.sum(piece.width),
-            v: widths.v,
-        },
-        ..hand
-    })
-}
 
-/// One more item behind `#`.
-fn add_v<E: Extent>(into: &mut Templates<E>, hand: Hand<E>, piece: Piece<E>) -> Next<E>
-    requires fits { Fits hand into.old }
-    requires behind { hand.marked ≡ true }
-    ensures { (text : List ℕ) (wide : Item → ℕ → ℤ) → Suits E.count E.num wide text hand.place piece → Turns E.count E.num wide text hand into.old (taking (reading_of text hand into.old) (meant text piece.item []) piece.last piece.end) into.new result }
-{
-    if is_full(hand.v) {
-        return Next::Refuses(Cause::Full.at(piece.last));
+    /// The column in hand with an item more, of this width: before `#` it is of u, behind it of v.
+    fn longer(self, width: E) -> ColumnRecord<E>
+        requires { (self.column.template.u ≤ 64) × (self.column.template.v ≤ 64) }
+        ensures before { self.marked ≡ false → (result ≡ longer_u self result.widths.u) × Adds E.count E.num self.column.widths.u width result.widths.u }
+        ensures behind { self.marked ≡ true → (result ≡ longer_v self result.widths.v) × Adds E.count E.num self.column.widths.v width result.widths.v }
+    {
+        let ColumnRecord {
+            mut template,
+            widths: Owed { mut u, mut v },
+            gap,
+        } = self.column;
+        if self.marked {
+            template.v += 1;
+            v = v.sum(width);
+        } else {
+            template.u += 1;
+            u = u.sum(width);
+        }
+        ColumnRecord {
+            template,
+            widths: Owed { u, v },
+            gap,
+        }
     }
-    put_item(into, hand.from + hand.u + hand.v, piece.item);
-    let widths = hand.widths;
-    Next::GoesOn(Hand {
-        place: piece.end,
-        v: hand.v + 1,
-        widths: Owed {
-            u: widths.u,
-            v: widths.v.sum(piece.width),
-        },
-        ..hand
-    })
-}
 
-/// One more item of the part in hand.
-pub(crate) fn take_item<E: Extent>(
-    into: &mut Templates<E>,
-    hand: Hand<E>,
-    piece: Piece<E>,
-) -> Next<E>
-    requires { Fits hand into.old }
-    ensures { (text : List ℕ) (wide : Item → ℕ → ℤ) → Suits E.count E.num wide text hand.place piece → Turns E.count E.num wide text hand into.old (taking (reading_of text hand into.old) (meant text piece.item []) piece.last piece.end) into.new result }
-{
-    if hand.marked {
-        add_v(into, hand, piece)
-    } else {
-        add_u(into, hand, piece)
+    /// One more item of the part in hand.
+    pub(crate) fn take_item(
+        self,
+        into: &mut Templates<E>,
+        piece: Piece<E>,
+    ) -> Result<Step<E>, Fault>
+        requires { Fits self into.old }
+        ensures { (text : List ℕ) (wide : Item → ℕ → ℤ) → Suits E.count E.num wide text self.place piece → Turns E.count E.num wide text self into.old (taking (reading_of text self into.old) (meant text piece.item []) piece.last piece.end) into.new result }
+    {
+        if self.is_full() {
+            return Err(Cause::Full.at(piece.last));
+        }
+        into.put_item(self.written(), piece.item);
+        Ok(ControlFlow::Continue(Hand {
+            place: piece.end,
+            column: self.longer(piece.width),
+            ..self
+        }))
     }
 }

@@ -1,14 +1,17 @@
-use extent::Extent;
-use faults::Fault;
-use ledger::records::{Column, ItemRecord, Owed};
-use lengths::gap::Gap;
+ghost use Rattle.std.specs.Prelude.{◌≡◌, ℕ, ◌<◌, ◌≤◌, pos};
+ghost use Rattle.templates.specs.Readings.{empty_with, written as written_by};
 
-/// What a preamble is read into; the host lends one, as large as the largest preamble needs.
+use extent::Extent;
+use ledger::records::{Column, ColumnRecord, ItemRecord, Owed};
+use lengths::gap::Gap;
+use std::ops::ControlFlow;
+
+/// What a preamble is read into: the starting gap, the columns, the items of their templates. The host lends one, as
+/// large as the largest preamble needs: the device has no heap.
 #[derive(Drop)]
 pub struct Templates<E> {
-    pub columns: [Column; 32],
-    pub widths: [Owed<E>; 32],
-    pub gaps: [Gap; 33],
+    pub start: Gap,
+    pub columns: [ColumnRecord<E>; 32],
     pub pieces: [ItemRecord; 4096],
 }
 
@@ -20,18 +23,16 @@ pub struct Read {
     pub bytes: usize,
 }
 
-/// How far the reading is: the place in the text, the columns finished, and of the template in hand its first item, the
-/// items before and behind `#`, whether that has come, the gap after its column and the widths so far.
+/// How far the reading is: the place in the text, the columns finished, whether the `#` of the template in hand has come,
+/// and its column so far.
+// The memory and the text are parameters of its methods: a struct that held the `&mut` would owe, at each method, that it
+// keeps that reference. `marked` is a bool, as in the definition of a reading.
 #[derive(Clone, Copy)]
 pub(crate) struct Hand<E> {
     pub(crate) place: usize,
     pub(crate) columns: usize,
-    pub(crate) from: usize,
-    pub(crate) u: usize,
-    pub(crate) v: usize,
     pub(crate) marked: bool,
-    pub(crate) gap: Gap,
-    pub(crate) widths: Owed<E>,
+    pub(crate) column: ColumnRecord<E>,
 }
 
 /// A word in the text, and the place behind its token.
@@ -51,27 +52,41 @@ pub(crate) struct Piece<E> {
     pub(crate) end: usize,
 }
 
-/// What a token makes of the reading.
-#[derive(Clone, Copy)]
-pub(crate) enum Next<E> {
-    GoesOn(Hand<E>),
-    Ends(Read),
-    Refuses(Fault),
+/// What a token makes of the reading: it goes on, or it ends.
+pub(crate) type Step<E> = ControlFlow<Read, Hand<E>>;
+
+/// A column whose template has no items yet, from an item on, with the gap after it.
+pub fn empty_column<E: Extent>(from: usize, gap: Gap) -> ColumnRecord<E>
+    ensures is { result ≡ empty_with from result.widths gap }
+    ensures u { (k : ℕ) → k < E.count → E.num result.widths.u k ≡ pos 0 }
+    ensures v { (k : ℕ) → k < E.count → E.num result.widths.v k ≡ pos 0 }
+{
+    ColumnRecord {
+        template: Column { from, u: 0, v: 0 },
+        widths: Owed {
+            u: E::zero(),
+            v: E::zero(),
+        },
+        gap,
+    }
+}
+
+impl<E: Copy> Hand<E> {
+    /// How many items are written: those of the columns before and of the template in hand.
+    pub(crate) fn written(self) -> usize
+        requires { (self.column.template.from ≤ 4096) × (self.column.template.u ≤ 64) × (self.column.template.v ≤ 64) }
+        ensures { result ≡ written_by self }
+    {
+        let Column { from, u, v } = self.column.template;
+        from + (u + v)
+    }
 }
 
 impl<E: Extent> Templates<E> {
     pub fn new() -> Templates<E> {
         Templates {
-            columns: [Column {
-                from: 0,
-                u: 0,
-                v: 0,
-            }; 32],
-            widths: [Owed {
-                u: E::zero(),
-                v: E::zero(),
-            }; 32],
-            gaps: [Gap::none(); 33],
+            start: Gap::none(),
+            columns: [empty_column(0, Gap::none()); 32],
             pieces: [ItemRecord::Space; 4096],
         }
     }

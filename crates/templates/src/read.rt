@@ -6,14 +6,11 @@ ghost use Rattle.ledger.specs.Preambles.{preamble_of};
 ghost use Rattle.templates.specs.Kept.{KeptIn, WidthsIn};
 ghost use Rattle.templates.specs.Readings.{read_in};
 
-use crate::memory::{Hand, Next, Read, Templates};
-use crate::steps::step;
-use crate::writes::put_start;
-use extent::Extent;
+use crate::memory::{Hand, Read, Templates, empty_column};
 use faults::Fault;
-use ledger::records::Owed;
 use lengths::gap::Gap;
 use measure::Measurer;
+use std::ops::ControlFlow;
 
 /// Reads the preamble at the start of a text, token by token, up to its `\cr`.
 pub fn read_preamble<M: Measurer>(
@@ -26,25 +23,17 @@ pub fn read_preamble<M: Measurer>(
     ensures kept { KeptIn text.now (parts_of start) into.new result }
     ensures widths { WidthsIn M.Extent.Extent.count M.Extent.Extent.num (wide_by M.Extent.Extent.num M.Extent.Extent.entered (M.Measurer.meaning measurer.now) (M.Measurer.blank measurer.now)) text.now into.new result }
 {
-    put_start(into, start);
+    into.start = start;
     let mut hand = Hand {
         place: 0,
         columns: 0,
-        from: 0,
-        u: 0,
-        v: 0,
         marked: false,
-        gap: start,
-        widths: Owed {
-            u: M::Extent::zero(),
-            v: M::Extent::zero(),
-        },
+        column: empty_column(0, start),
     };
     loop {
-        match step(measurer, into, hand, text) {
-            Next::GoesOn(next) => hand = next,
-            Next::Ends(read) => return Ok(read),
-            Next::Refuses(fault) => return Err(fault),
+        match hand.step(measurer, into, text)? {
+            ControlFlow::Continue(next) => hand = next,
+            ControlFlow::Break(read) => return Ok(read),
         }
     }
 }

@@ -1,7 +1,8 @@
 -- Laws of numbers that may be missing. Assumes nothing.
-use Rattle.std.proofs.Common.{◌≡◌, ℕ, ℤ, pos, ◌+ℤ◌, ◌-ℤ◌, ◌≤ℤ◌, Some, None, Option, refl, ap, arith}
+use Rattle.std.proofs.Common.{◌≡◌, ℤ, pos, ◌+ℤ◌, ◌-ℤ◌, ◌≤ℤ◌, Some, None, Option, sym, refl, ap, ◌∙◌, arith}
 use Rattle.std.specs.Int.{int_max}
 use Rattle.std.proofs.lemmas.Int.{ints, clamps, by_lt_z}
+use Rattle.std.proofs.lemmas.Option.{none-some}
 use Rattle.widths.specs.Merging.{less, join, counted}
 use Rattle.widths.specs.Settling.{instead}
 
@@ -51,15 +52,15 @@ pub record Above (x : ℤ) (o : Option ℤ) : Type 0 where
 pub join-above_left : (x : ℤ) (a b : Option ℤ) → Above x a → Above x (join a b)
 join-above_left x (Some a) (Some b) h = let e : a ≡ h.top = let i = h.is in cc in let r = h.reaches in record { top = int_max a b; is = refl; reaches = omega (arith, ints, clamps) }
 join-above_left x (Some a) None h = h
-join-above_left x None b h = let i = h.is in let k : ◌≡◌ {A = ℕ} 0 1 = cc in absurd (omega arith)
+join-above_left x None b h = absurd (none-some h.top h.is)
 
 pub join-above_right : (x : ℤ) (a b : Option ℤ) → Above x b → Above x (join a b)
 join-above_right x (Some a) (Some b) h = let e : b ≡ h.top = let i = h.is in cc in let r = h.reaches in record { top = int_max a b; is = refl; reaches = omega (arith, ints, clamps) }
-join-above_right x (Some a) None h = let i = h.is in let k : ◌≡◌ {A = ℕ} 0 1 = cc in absurd (omega arith)
+join-above_right x (Some a) None h = absurd (none-some h.top h.is)
 join-above_right x None b h = h
 
 pub above-some : (x : ℤ) (o : Option ℤ) → Above x o → o ≡ None → ⊥
-above-some x o h e = let i = h.is in let k : ◌≡◌ {A = ℕ} 0 1 = cc in omega arith
+above-some x o h e = none-some h.top (sym e ∙ h.is)
 
 pub by-option : {P : Type 0} (o : Option ℤ) → ((z : ℤ) → o ≡ Some z → P) → (o ≡ None → P) → P
 by-option (Some z) s n = s z refl
@@ -68,7 +69,7 @@ by-option None s n = n refl
 -- the number that a lessened one comes from
 pub less-from : {P : Type 0} (o : Option ℤ) (y z : ℤ) → less o y ≡ Some z → ((e : ℤ) → o ≡ Some e → e ≡ z +ℤ y → P) → P
 less-from (Some e) y z h go = go e refl (let k : e -ℤ y ≡ z = cc in omega (arith, ints))
-less-from None y z h go = let k : ◌≡◌ {A = ℕ} 0 1 = cc in absurd (omega arith)
+less-from None y z h go = absurd (none-some z h)
 
 -- voidness is all that a gap's count asks of a width
 pub counted-instead : (o : Option ℤ) (z g : ℤ) → counted (instead o z) g ≡ counted o g

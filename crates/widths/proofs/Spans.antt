@@ -3,6 +3,7 @@ use Rattle.std.proofs.Common.{◌≡◌, ℕ, ◌&&◌, eqb, List, [], ◌∷◌
 use Rattle.std.specs.List.{AllByRecursion}
 use Rattle.std.proofs.lemmas.Int.{ints, clamps}
 use Rattle.std.proofs.lemmas.Bool.{cond-true, cond-false, cases_Bool, and_parts, and_from, and_right, eq-eqb, eqb-true, ne_eqb}
+use Rattle.std.proofs.lemmas.Option.{none-some}
 use Rattle.extent.specs.Sizes.{Within}
 use Rattle.widths.specs.declared.Entry.{Entry}
 use Rattle.widths.specs.Merging.{join}
@@ -27,14 +28,13 @@ asked-from P e i j z p h = ⊎_elim
     let k = cond-true (eqb e.first i && eqb e.last j) (Some e.width) None t in
     let w : e.width ≡ z = cc in
     subst P w (p (eqb-true e.first i b.0) (eqb-true e.last j b.1)))
-    (λ f. let k = cond-false (eqb e.first i && eqb e.last j) (Some e.width) None f in
-    let q : ◌≡◌ {A = ℕ} 0 1 = cc in absurd (omega arith))
+    (λ f. absurd (none-some z (sym (cond-false (eqb e.first i && eqb e.last j) (Some e.width) None f) ∙ h)))
     (cases_Bool (eqb e.first i && eqb e.last j))
 
 -- what W(i,j) is, some entry over i to j is
 pub widest-from : (P : ℤ → Type 0) (es : List (Entry ℤ)) (i j : ℕ) (z : ℤ) → AllByRecursion (λ e. e.first ≡ i → e.last ≡ j → P e.width) es → widest es i j ≡ Some z → P z
 unfolding widest
-widest-from P [] i j z all h = let q : ◌≡◌ {A = ℕ} 0 1 = cc in absurd (omega arith)
+widest-from P [] i j z all h = absurd (none-some z h)
 widest-from P (e ∷ es) i j z all h = join-from (asked e i j) (widest es i j) z h
     (λ here. asked-from P e i j z all.0 here)
     (λ there. widest-from P es i j z all.1 there)

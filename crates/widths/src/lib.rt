@@ -46,10 +46,7 @@ pub fn width_counted<E: Extent>(w: Option<E>) -> E
 pub fn gap_counted<E: Extent>(w: Option<E>, gap: E) -> E
     ensures { (k : ℕ) → k < E.count → E.num result k ≡ counted (seen E.num k w) (E.num gap k) }
 {
-    match w {
-        Some(_) => gap,
-        None => E::zero(),
-    }
+    w.map_or(E::zero(), |_| gap)
 }
 
 // How far a column moves what follows it.
@@ -63,10 +60,7 @@ pub fn advance<E: Extent>(w: Option<E>, gap: E) -> E
 pub fn lessened<E: Extent>(x: Option<E>, by: E) -> Option<E>
     ensures { (k : ℕ) → k < E.count → Near (size (seen E.num k x)) → Near (E.num by k) → seen E.num k result ≡ less (seen E.num k x) (E.num by k) }
 {
-    match x {
-        Some(e) => Some(e.difference(by)),
-        None => None,
-    }
+    x.map(|e| e.difference(by))
 }
 
 // The larger of two widths, of which any may be missing.
@@ -75,20 +69,16 @@ pub fn joined<E: Extent>(a: Option<E>, b: Option<E>) -> Option<E>
 {
     match (a, b) {
         (Some(x), Some(y)) => Some(x.larger(y)),
-        (Some(x), None) => Some(x),
-        (None, b) => b,
+        _ => a.or(b),
     }
 }
 
 // Whatever widths the rightward merge gives are settled.
-pub fn merging_settles() -> u8
+pub fn merging_settles()
     ensures { MergingSettles }
-{
-    0
-}
+{}
 
-pub fn samples_settle() -> u8
+// The worked tables settle to their widths.
+pub fn samples_settle()
     ensures { SamplesSettle }
-{
-    0
-}
+{}

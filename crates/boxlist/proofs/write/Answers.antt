@@ -5,8 +5,8 @@ use Rattle.boxlist.proofs.Decided.{writable-count}
 use Rattle.boxlist.proofs.Outcomes.{wrote}
 use Rattle.boxlist.proofs.write.Goals as goal
 
-pub list_len-need-requires : goal.list_len-need-requires
-list_len-need-requires c =
+pub byte_count-need-requires : goal.byte_count-need-requires
+byte_count-need-requires c =
     writable-count c.args.list.width c.args.list.height c.args.list.boxes.now (sym c.if-not-is_writable.ensures)
 
 pub returns-then-not-is_writable : goal.returns-then-not-is_writable
@@ -23,6 +23,6 @@ returns-then-out-need c =
 
 pub returns : goal.returns
 returns c =
-    let a : ◌≡◌ {A = Result ℕ Fault} (Ok c.list_len-need.result) (write_answer c.args.list.width c.args.list.height c.args.list.boxes.now (length c.args.out.now)) = search rules in
-    let b : c.put_list.new.out ≡ written_over c.args.list.width c.args.list.height c.args.list.boxes.now c.args.out.now = search rules in
-    record { answer = a; bytes = b; law = wrote c.args.list.width c.args.list.height c.args.list.boxes.now c.args.out.now c.put_list.new.out (Ok c.list_len-need.result) a b }
+    let a : ◌≡◌ {A = Result ℕ Fault} (Ok c.byte_count-need.result) (write_answer c.args.list.width c.args.list.height c.args.list.boxes.now (length c.args.out.now)) = search rules in
+    let b : c.put.new.out ≡ written_over c.args.list.width c.args.list.height c.args.list.boxes.now c.args.out.now = search rules in
+    record { answer = a; bytes = b; law = wrote c.args.list.width c.args.list.height c.args.list.boxes.now c.args.out.now c.put.new.out (Ok c.byte_count-need.result) a b }

@@ -26,16 +26,17 @@ impl Gap {
         Gap::of(0, 0, Order::Points)
     }
 
-    // A gap of these parts, or nothing where a number is out of its range.
+    // A gap of these parts, or nothing where a number is out of its range. The order comes as a host's number: an enum
+    // would ask more of hosts.
     pub fn new(natural: i64, stretch: i64, order: i64) -> Option<Gap>
         ensures answer { option_map parts_of result ≡ gap_of natural stretch order }
         ensures law { MakesGap natural stretch order (option_map parts_of result) }
     {
-        let order = Order::from_number(order)?;
-        if natural < -16_777_215 || natural > 16_777_215 {
+        let order = Order::try_from(order).ok()?;
+        if !(-16_777_215..=16_777_215).contains(&natural) {
             return None;
         }
-        if stretch < 0 || stretch > 16_777_215 {
+        if !(0..=16_777_215).contains(&stretch) {
             return None;
         }
         Some(Gap::of(natural, stretch, order))

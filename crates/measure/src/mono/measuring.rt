@@ -1,6 +1,6 @@
-ghost use Rattle.std.specs.Prelude.{◌≡◌, ◌≤◌, length, take};
-ghost use Rattle.measure.specs.Monos.{parts_of, parts_in, mono_made, MonoMade, has_character, mono_metrics, mono_meaning, mono_blank, Monospaced};
-ghost use Rattle.measure.specs.Words.{IsWord, first_not};
+ghost use Rattle.std.specs.Prelude.{◌≡◌, ◌≤◌, not, ◌&&◌, int_le, pos, length, take, position};
+ghost use Rattle.measure.specs.Monos.{parts_of, parts_in, in_ranges, mono_made, MonoMade, has_character, mono_metrics, mono_meaning, mono_blank, Monospaced};
+ghost use Rattle.measure.specs.Words.{IsWord};
 ghost use Rattle.measure.specs.Pitched.{mono-bounded, mono-placed};
 ghost use Rattle.std.proofs.Common.{rules, arith};
 
@@ -9,22 +9,30 @@ use crate::mono::Mono;
 use extent::{Extent, Plain};
 use faults::{Cause, Fault};
 
+// Whether a number is neither below zero nor too large.
+fn is_upto(n: i64, most: i64) -> bool
+    ensures { result ≡ (int_le (pos 0) n && int_le n most) }
+{
+    (0..=most).contains(&n)
+}
+
+// Whether a measurer may have these numbers.
+fn in_ranges(pitch: i64, height: i64, depth: i64, last: i64) -> bool
+    ensures { result ≡ in_ranges (record { pitch = pitch; height = height; depth = depth; last = last }) }
+{
+    is_upto(pitch, 4_194_304)
+        && is_upto(height, 16_777_215)
+        && is_upto(depth, 16_777_215)
+        && (32..=126).contains(&last)
+}
+
 impl Mono {
     // A measurer of this pitch, height, depth and last byte, or a refusal where one is out of its range.
     pub fn new(pitch: i64, height: i64, depth: i64, last: i64) -> Result<Mono, Fault>
         ensures answer { parts_in result ≡ mono_made (record { pitch = pitch; height = height; depth = depth; last = last }) }
         ensures law { MonoMade (record { pitch = pitch; height = height; depth = depth; last = last }) (parts_in result) }
     {
-        if pitch < 0 || pitch > 4_194_304 {
-            return Err(Cause::MeasurerRange.at(0));
-        }
-        if height < 0 || height > 16_777_215 {
-            return Err(Cause::MeasurerRange.at(0));
-        }
-        if depth < 0 || depth > 16_777_215 {
-            return Err(Cause::MeasurerRange.at(0));
-        }
-        if last < 32 || last > 126 {
+        if !in_ranges(pitch, height, depth, last) {
             return Err(Cause::MeasurerRange.at(0));
         }
         Ok(Mono {
@@ -44,14 +52,9 @@ impl Mono {
 
     // The place of the first byte without a character.
     fn first_missing(&self, bytes: &[u8]) -> Option<usize>
-        ensures { result ≡ first_not (has_character self.now.last) bytes.now }
+        ensures { result ≡ position (λ b. not (has_character self.now.last b)) bytes.now }
     {
-        for (i, b) in bytes.iter().enumerate() {
-            if !self.has_character(*b) {
-                return Some(i);
-            }
-        }
-        None
+        bytes.iter().position(|b| !self.has_character(*b))
     }
 
     // So many bytes, all with a character.
@@ -73,10 +76,8 @@ impl Mono {
         requires { length word.now ≤ 255 }
         ensures { result ≡ mono_meaning (parts_of self.now) word.now }
     {
-        match self.first_missing(word) {
-            Some(place) => Err(place),
-            None => Ok(self.metrics(word.len())),
-        }
+        self.first_missing(word)
+            .map_or(Ok(self.metrics(word.len())), Err)
     }
 }
 
@@ -99,7 +100,7 @@ impl Measurer for Mono {
         ensures law { IsWord bytes.now → Monospaced (parts_of self.now) bytes.now result }
         ensures always { result ≡ mono_meaning (parts_of self.now) (take 255 bytes.now) }
     {
-        self.measure(&bytes[0..bytes.len().min(255)])
+        self.measure(&bytes[..bytes.len().min(255)])
     }
 
     fn space(&self) -> Plain {

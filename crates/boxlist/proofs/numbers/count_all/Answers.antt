@@ -1,25 +1,14 @@
-use Rattle.std.proofs.Common.{◌^◌, ◌<◌, length, get_or, ap, ◌∙◌, arith, rules}
-use Rattle.std.proofs.lemmas.List.{take_all}
-use Rattle.boxlist.specs.Groups.{groups_of, all_groups}
-use Rattle.boxlist.proofs.Steps.{length-groups_le}
-use Rattle.boxlist.proofs.Joins.{length-joined_more}
+use Rattle.std.proofs.Common.{◌≡◌, length, sym, ◌∙◌, arith, rules}
+use Rattle.std.specs.List.{sum_by}
+use Rattle.std.proofs.lemmas.Iterator.{YieldsList-from_slice}
+use Rattle.std.proofs.lemmas.Iterator.Adapters.{fits_from_length, at_most_from_yields_List}
+use Rattle.std.proofs.lemmas.List.Concat.{length-flat_map}
+use Rattle.boxlist.specs.Groups.{groups_of}
 use Rattle.boxlist.proofs.numbers.count_all.Goals as goal
-
-pub overflow_add-total : goal.overflow_add-total
-overflow_add-total c =
-    let small : get_or c.args.numbers.now c.loop-n.n-index 0 < 128 ^ 10 = search rules in
-    let few = length-groups_le 9 (get_or c.args.numbers.now c.loop-n.n-index 0) small in
-    search rules
-
-pub loop-n-preserved : goal.loop-n-preserved
-loop-n-preserved c =
-    let small : get_or c.args.numbers.now c.loop-n.n-index 0 < 128 ^ 10 = search rules in
-    let few = length-groups_le 9 (get_or c.args.numbers.now c.loop-n.n-index 0) small in
-    omega (arith, length-joined_more groups_of c.args.numbers.now c.loop-n.n-index 0 c.loop-n-test.true)
 
 pub returns : goal.returns
 returns c =
-    record {
-      total = c.loop-n.invariant.0 ∙ ap (λ l. length (all_groups l)) (take_all c.loop-n.n-index c.args.numbers.now (search rules));
-      within = omega (arith, c.loop-n.invariant.1);
-    }
+    let s : c.sum.result ≡ sum_by (λ n. length (groups_of n)) c.args.numbers.now = search rules in
+    let run = c.sum.ensures.runs tt in
+    let top = fits_from_length _ _ 9 91 (at_most_from_yields_List (YieldsList-from_slice c.args.numbers.now cc) c.requires) c.map.ensures.closure (omega arith) (λ x r q k. search rules) run.0 run.0.seen run.1 in
+    record { total = s ∙ sym (length-flat_map groups_of c.args.numbers.now); within = omega (arith, top, run.3) }

@@ -1,11 +1,7 @@
-use Rattle.std.proofs.Common.{◌≡◌, ℕ, ◌+◌, ◌-◌, ◌*◌, ◌/◌, ◌<◌, ◌≤◌, List, [], ◌∷◌, length, get_or, take, drop, sym, ap, ◌∙◌, subst, arith, rules}
+use Rattle.std.proofs.Common.{◌≡◌, ℕ, ◌+◌, ◌-◌, ◌*◌, ◌/◌, ◌<◌, ◌≤◌, List, [], ◌∷◌, length, get_or, take, drop, sym, ap, ◌∙◌, arith, rules}
 use Rattle.std.proofs.lemmas.List.{take_rest, nil_from_length}
 use Rattle.lengths.specs.Fractions.{Digits, scaled}
 use Rattle.lengths.proofs.fraction.+scale.Goals as goal
-
-tail-digits : (xs : List ℕ) → 0 < length xs → Digits xs → Digits (take (length xs - 1) (drop 1 xs))
-tail-digits [] some h = absurd (omega arith)
-tail-digits (x ∷ xs) some h = subst Digits (sym (take_rest (x ∷ xs) 1)) h.2
 
 first-digit : (xs : List ℕ) → 0 < length xs → Digits xs → get_or xs 0 0 ≤ 57
 first-digit [] some h = absurd (omega arith)
@@ -15,17 +11,14 @@ step : (xs : List ℕ) (n : ℕ) → 0 < length xs → n ≡ scaled (take (lengt
 step [] n some e = absurd (omega arith)
 step (x ∷ xs) n some e = ap (λ (m : ℕ). (m + (x - 48) * 131072) / 10) (e ∙ ap scaled (take_rest (x ∷ xs) 1))
 
-pub scale-requires : goal.scale-requires
-scale-requires t c = (search rules, tail-digits c.args.digits.now (search rules) c.requires)
-
 pub returns-in-empty : goal.returns-in-empty
-returns-in-empty t c = record { is = sym (ap scaled (nil_from_length c.args.digits.now (search rules))); small = omega arith }
+returns-in-empty t c = record { is = sym (ap scaled (nil_from_length c.args.digits.bytes.now (search rules))); small = omega arith }
 
 pub returns-in-len1-up : goal.returns-in-len1-up
 returns-in-len1-up t c =
-    let some : 0 < length c.args.digits.now = search rules in
-    let top = first-digit c.args.digits.now some c.requires in
+    let some : 0 < length c.args.digits.bytes.now = search rules in
+    let top = first-digit c.args.digits.bytes.now some c.args.digits.digits in
     record {
-      is = step c.args.digits.now c.scale.result some c.scale.ensures.is;
-      small = omega (arith, c.scale.ensures.small);
+      is = rw c.from.ensures (step c.args.digits.bytes.now c.scale.result some c.scale.ensures.is);
+      small = omega (arith, c.scale.ensures.small, c.from.ensures);
     }

@@ -8,6 +8,6 @@ returns c =
     let e = ap (λ (n : ℕ). (n + 1) / 2) c.scale.ensures.is in
     record {
       is = e;
-      nearest = subst (Nearest c.args.digits.now) (sym e) (nearest c.args.digits.now);
+      nearest = subst (Nearest c.args.digits.bytes.now) (sym e) (nearest c.args.digits.bytes.now);
       small = omega (arith, c.scale.ensures.small);
     }

@@ -1,6 +1,6 @@
-use Rattle.std.proofs.Common.{◌≡◌, ℕ, ◌+◌, ◌<◌, get_or, set, ℤ, pos, ◌+ℤ◌, Some, None, Option, sym, ap, ◌∙◌, subst, ⊎_elim, add-one, arith, w64, SFits, rules}
+use Rattle.std.proofs.Common.{◌≡◌, ℕ, ◌+◌, ◌<◌, get_or, take, set, ℤ, pos, ◌+ℤ◌, Some, None, Option, sym, ap, ◌∙◌, subst, ⊎_elim, add-one, arith, w64, SFits, rules}
 use Rattle.std.proofs.lemmas.Int.{to_z-of_z, ints}
-use Rattle.std.proofs.lemmas.List.{get_or-set_same, get_or-set_other, get_or_read}
+use Rattle.std.proofs.lemmas.List.{get_or-set_same, get_or-set_other, get_or_read, get_or-take, length-take-le}
 use Rattle.std.proofs.lemmas.Bool.{cases_eq}
 use Rattle.extent.specs.Sizes.{Near}
 use Rattle.widths.specs.Merging.{seen, size, counted}
@@ -40,11 +40,13 @@ loop-j-preserved g c =
     let gaps = c.args.gaps.now in
     let ws = c.args.widths.now in
     let j = c.loop-j.j in
-    let x = c.index-widths-j.result in
+    let x = c.width-item.result in
+    let len = length-take-le c.args.columns ws c.requires.0 in
+    let below : j < c.args.columns = omega arith in
     let gap : ℤ = get_or gaps (j + 1) (pos 0) in
     let fits : SFits w64 gap = search rules in
-    let is : x ≡ get_or ws j None = get_or_read ws j x (omega arith) c.index-widths-j.is None in
-    let stored : c.store.new.slice ≡ set c.loop-j.edges j c.sum-right.result = c.store.ensures in
+    let is : x ≡ get_or ws j None = get_or_read (take c.args.columns ws) j x c.loop-j-test.true c.width-item.is None ∙ get_or-take c.args.columns ws j None below in
+    let stored = set c.loop-j.edges j c.sum-right.result in
     let right_is : (k : ℕ) → k < m.count → SizedOn m.num m.entered k gaps c.args.columns ws → m.num c.sum-right.result k ≡ edge (starting m.entered k gaps) (column m.num k ws) (after m.entered k gaps) j =
     λ k kc sized.
     let a = c.loop-j.invariant.0 k kc sized in
@@ -61,21 +63,9 @@ loop-j-preserved g c =
           ∙ ap (λ z. z +ℤ m.num c.gap_counted.result k) a ∙ ap (λ z. edge (starting m.entered k gaps) (column m.num k ws) (after m.entered k gaps) j +ℤ z) b
           ∙ natural-more (starting m.entered k gaps) (column m.num k ws) (after m.entered k gaps) j),
       (λ k kc sized i d lt. ⊎_elim
-          (λ here. subst (λ n. m.num (get_or c.store.new.slice n d) k ≡ edge (starting m.entered k gaps) (column m.num k ws) (after m.entered k gaps) n) (sym here)
-          (ap (λ s. m.num (get_or s j d) k) stored ∙ ap (λ v. m.num v k) (get_or-set_same c.loop-j.edges j c.sum-right.result d (omega arith)) ∙ right_is k kc sized))
-          (λ ne. ap (λ s. m.num (get_or s i d) k) stored ∙ ap (λ v. m.num v k) (get_or-set_other c.loop-j.edges j i c.sum-right.result d ne) ∙ c.loop-j.invariant.1 k kc sized i d (omega arith))
+          (λ here. subst (λ n. m.num (get_or stored n d) k ≡ edge (starting m.entered k gaps) (column m.num k ws) (after m.entered k gaps) n) (sym here)
+          (ap (λ v. m.num v k) (get_or-set_same c.loop-j.edges j c.sum-right.result d (omega arith)) ∙ right_is k kc sized))
+          (λ ne. ap (λ v. m.num v k) (get_or-set_other c.loop-j.edges j i c.sum-right.result d ne) ∙ c.loop-j.invariant.1 k kc sized i d (omega arith))
           (cases_eq i j)),
-      (λ i d h. ap (λ s. get_or s i d) stored ∙ get_or-set_other c.loop-j.edges j i c.sum-right.result d (omega arith) ∙ c.loop-j.invariant.2 i d (omega arith)),
+      (λ i d h. get_or-set_other c.loop-j.edges j i c.sum-right.result d (omega arith) ∙ c.loop-j.invariant.2 i d (omega arith)),
     )
-
-pub returns : goal.returns
-returns g c =
-    let end : c.loop-j.j ≡ c.args.columns = omega arith in
-    let m = g.E.Extent in
-    let gaps = c.args.gaps.now in
-    let ws = c.args.widths.now in
-    record {
-      total = λ k kc sized. c.loop-j.invariant.0 k kc sized ∙ ap (natural (starting m.entered k gaps) (column m.num k ws) (after m.entered k gaps)) end;
-      placed = λ k kc sized j d lt. c.loop-j.invariant.1 k kc sized j d (omega arith);
-      rest = λ j d h. c.loop-j.invariant.2 j d (omega arith);
-    }

@@ -7,8 +7,8 @@ pub returns : goal.returns
 returns g c = record {
   merged = λ wide sound tame k kc.
       let X = g.E.Extent in
-      let ws = c.ask_in.new.widths in
+      let ws = c.settle.new.widths in
       let i = c.args.index in
       let here : get_or ws i c.index-widths-index.result ≡ get_or ws i None = get_or_default ws i c.index-widths-index.result None (omega arith) in
-      ap (seen X.num k) (c.index-widths-index.is ∙ here) ∙ ((c.ask_in.ensures.settled wide sound tame).1 k kc).merged i c.requires.index;
+      ap (seen X.num k) (c.index-widths-index.is ∙ here) ∙ ((c.settle.ensures.settled wide sound tame).1 k kc).merged i c.requires.index;
 }

@@ -39,7 +39,7 @@ returns-in-Err g c =
     record {
       made = ap bytes_read e;
       shaped = subst (λ (d : Read). Shaped text t d (templates_made (read_from text (g.M.Measurer.meaning c.args.measurer.now) s)) (gaps_made s (read_from text (g.M.Measurer.meaning c.args.measurer.now) s))) is
-          (subst (λ (r : Result Preamble Fault). Shaped text t (record { columns = 1; pieces = 0; bytes = 0 }) (templates_made r) (gaps_made s r)) e (blank-shaped text t b.columns b.gaps));
-      widths = subst (λ (d : Read). Widths X.count X.num wide text t d) is (blank-widths text t b.columns X.count X.num wide b.us b.vs);
+          (subst (λ (r : Result Preamble Fault). Shaped text t (record { columns = 1; pieces = 0; bytes = 0 }) (templates_made r) (gaps_made s r)) e (blank-shaped text t b.column.0 b.column.1.0 b.gap));
+      widths = subst (λ (d : Read). Widths X.count X.num wide text t d) is (blank-widths text t b.column.0 b.column.1.0 X.count X.num wide b.column.1.1);
       text = ap (λ (d : Read). take d.bytes text) b.answer ∙ subst (λ (r : Result Preamble Fault). [] ≡ text_made text r) e refl;
     }

@@ -6,7 +6,7 @@ use Rattle.templates.proofs.read.read_preamble.Given as goal
 
 abbrev pub invariant-loop-next : goal.invariant-loop-next
 invariant-loop-next g l = Underway g.M.Extent.Extent.count g.M.Extent.Extent.num (wide_by g.M.Extent.Extent.num g.M.Extent.Extent.entered (g.M.Measurer.meaning l.measurer) (g.M.Measurer.blank l.measurer))
-    l.text (g.M.Measurer.meaning l.measurer) (parts_of l.initial.hand.gap) l.hand l.into
+    l.text (g.M.Measurer.meaning l.measurer) (parts_of l.initial.hand.column.gap) l.hand l.into
 
 abbrev pub decreases-loop-next : goal.decreases-loop-next
 decreases-loop-next g l = length l.text - l.hand.place

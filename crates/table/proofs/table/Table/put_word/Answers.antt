@@ -1,43 +1,12 @@
-use Rattle.std.proofs.Common.{◌≡◌, ℕ, true, ℤ, None, Option, Result, sym, refl, ap, ◌∙◌, subst, Bor}
-use Rattle.faults.specs.declared.Fault.{Fault}
-use Rattle.measure.specs.declared.measurer.Metrics.{Metrics}
-use Rattle.ledger.specs.Ledger.{Item, cell_word}
-use Rattle.ledger.specs.Naturals.{wide_by, word_by, item_fault, fault_in}
-use Rattle.rows.specs.Sound.{Sound}
-use Rattle.rows.specs.Held.{held_of}
-use Rattle.rows.specs.Good.{templates_of, room_in, ledger_of, begun_in}
-use Rattle.rows.proofs.Rooms.{begun-at, both}
-use Rattle.table.specs.Promises.{Fitting, unless}
-use Rattle.table.proofs.Verdicts.{put_verdict_lem}
-use Rattle.ledger.specs.Calls.{begun_at}
+use Rattle.std.proofs.Common.{sym, ap}
+use Rattle.ledger.specs.Ledger.{cell_word}
+use Rattle.ledger.specs.Naturals.{fault_in}
+use Rattle.rows.proofs.Verdicts.{passed}
+use Rattle.table.specs.Views.{wide_in}
+use Rattle.table.proofs.Verdicts.{put-answer}
 use Rattle.table.proofs.table.Table.put_word.Goals as goal
 
-pub add-requires : goal.add-requires
-add-requires g c =
+pub returns-clause-answer : goal.returns-clause-answer
+returns-clause-answer g c =
     let t = c.args.self.now in
-    let b = sym c.if-not-begun_at.false ∙ c.begun_at.ensures in
-    record { begun = both (begun_in t.state.stage) _ b; bytes = refl; few = c.in_ok-metrics.ensures.law.0.1 }
-
-pub returns : goal.returns
-returns g c =
-    let t = c.args.self.now in
-    let s = t.state in
-    let m = t.memory in
-    let q = t.preamble in
-    let X = g.M.Extent.Extent in
-    let meaning = g.M.Measurer.meaning t.measurer.now in
-    let wide : Item → ℕ → ℤ = wide_by X.num X.entered meaning (g.M.Measurer.blank t.measurer.now) in
-    let d = c.args.cell.now.column in
-    let b : begun_at d (ledger_of q s m).hand ≡ true = begun-at s.stage s.row.column s.row.first d (held_of q.text.now s m) ∙ sym c.begun_at.ensures ∙ c.if-not-begun_at.false in
-    let e = c.add.ensures in
-    let w = c.args.word.now in
-    let x = c.in_ok-metrics.metrics in
-    let law = c.in_ok-metrics.ensures.law in
-    let good : item_fault meaning (cell_word w) ≡ None = ap fault_in (sym c.in_ok-metrics.ensures.answer) in
-    let fit : Fitting X.count X.num wide x.width (cell_word w) = λ k kc. (ap (λ (y : Result (Metrics g.row.M-Extent.Denot) ℕ). word_by X.num y k) (sym law.1), (c.in_ok-metrics.ensures.within k kc).0) in
-    record {
-      answer = λ sound. e.answer wide sound fit ∙ ap (λ (v : Option Fault). unless v tt) (put_verdict_lem X.count wide meaning (templates_of q) (room_in m) (ledger_of q s m) d (cell_word w) b good);
-      ledger = e.ledger;
-      meant = λ sound. subst (λ (x : Bor g.row.M.Denot). Sound X.count X.num (wide_by X.num X.entered (g.M.Measurer.meaning x.now) (g.M.Measurer.blank x.now)) c.add.new.self.preamble c.add.new.self.state c.add.new.self.memory) (sym e.kept.measurer) (e.sound wide sound fit);
-      kept = e.kept;
-    }
+    put-answer g.M.Extent.Extent.count (wide_in t) (g.M.Measurer.meaning t.measurer.now) t.rows.preamble t.rows.draft.state t.rows.draft.memory c.args.cell.now.column (cell_word c.args.word.now) _ (passed _ _ c.in_ok-check_cell.ensures) (ap fault_in (sym c.in_ok-metrics.ensures.answer)) c.add.ensures.answer
