@@ -3,6 +3,8 @@ use Rattle.std.specs.Prelude.{ℕ, zero, suc, ◌+◌, Bool, true, false, cond, 
 use Rattle.widths.specs.declared.Entry.{Entry as Sized}
 use Rattle.measure.specs.declared.measurer.Metrics.{Metrics}
 use Rattle.faults.specs.declared.Fault.{Fault}
+use Rattle.measure.specs.declared.measurer.Measurer.{Ghosts as Meaning}
+use Rattle.extent.specs.declared.Extent.{Ghosts as Sides}
 use Rattle.measure.specs.Asked.{measured_by}
 use Rattle.lengths.specs.Gaps.{natural_fits}
 use Rattle.ledger.specs.Refusals.{entry_wide, table_full, foreign_cell, out_of_range}
@@ -30,6 +32,10 @@ wide_by num entered meaning blank (template_word a w) k = word_by num (meaning w
 wide_by num entered meaning blank space k = num blank k
 wide_by num entered meaning blank (kern z) k = entered k z
 wide_by num entered meaning blank hfil k = pos 0
+
+-- .. by a measurer's meaning and what its extents are on their sides
+abbrev pub wide_of : {X E : Type 0} → Meaning X E → Sides E → X → Item → ℕ → ℤ
+wide_of m s x = wide_by s.num s.entered (m.meaning x) (m.blank x)
 
 unfoldable pub natural : (Item → ℕ → ℤ) → List Item → ℕ → ℤ
 natural wide [] k = pos 0

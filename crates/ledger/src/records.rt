@@ -2,7 +2,7 @@ use lengths::gap::Gap;
 
 /// An item: a space, a word of a cell with its number of bytes, a word of the preamble text by place and length, a
 /// kern, a fill. Words are no slices: the list that is drawn names them by place and length, and the records are lent.
-#[derive(Clone, Copy)]
+#[derive(Clone, Copy, PartialEq, Eq, Debug)]
 pub enum ItemRecord {
     Space,
     CellWord(usize),
@@ -12,7 +12,7 @@ pub enum ItemRecord {
 }
 
 /// A column's template: its u part is `u` items from `from` on, its v part the next `v` items.
-#[derive(Clone, Copy)]
+#[derive(Clone, Copy, PartialEq, Eq, Debug)]
 pub struct Column {
     pub from: usize,
     pub u: usize,
@@ -20,14 +20,14 @@ pub struct Column {
 }
 
 /// The natural widths of a template's parts.
-#[derive(Clone, Copy)]
+#[derive(Clone, Copy, PartialEq, Eq, Debug)]
 pub struct Owed<E> {
     pub u: E,
     pub v: E,
 }
 
 /// A column as it is read: its template, the natural widths of the template's parts, and the gap after it.
-#[derive(Clone, Copy)]
+#[derive(Clone, Copy, PartialEq, Eq, Debug)]
 pub struct ColumnRecord<E> {
     pub template: Column,
     pub widths: Owed<E>,

@@ -194,8 +194,8 @@ module _ {E : Type 0} (count : ℕ) (num : E → ℕ → ℤ) (wide : Item → �
         subst (Within 1073741823) (e1 ∙ ap (λ (x : ℤ). x +ℤ natural wide (owed_of (templates_of q) (ledger_of q s m).hand) k) (sym e2) ∙ ap (λ (x : ℤ). natural wide (items_now (ledger_of q s' m').hand) k +ℤ x) (sym e3)) w;
     done = λ o k kc. ap (λ (n : ℕ). map (stored_by num k) (part n s'.marks.entries m'.entries.now)) el ∙ ap (λ (n : ℕ). map (stored_by num k) (part s.laid.entries n m'.entries.now)) em ∙ ap (λ (x : List (EntryRecord E)). map (stored_by num k) (part s.laid.entries s.marks.entries x)) ee ∙ sound.done (begun-open s.stage y) k kc
         ∙ sym (ap (λ (x : Ledger). map (natural_by wide k) (done_of x.hand)) L ∙ ap (λ (x : List Entry). map (natural_by wide k) x) (put_done s.stage s.row.column s.row.first (held_of q.text.now s m) a));
-    sized = λ k t d kc lt. subst (λ (x : List (EntryRecord E)). Within 1073741823 (num (get_or x t d).width k)) (sym ee) (sound.sized k t d kc (omega arith));
-    sized-done = λ o k t d kc lt. subst (λ (x : List (EntryRecord E)). Within 1073741823 (num (get_or x t d).width k)) (sym ee) (sound.sized-done (begun-open s.stage y) k t d kc (omega arith));
+    sized = λ k t d kc lt. subst (λ (x : List (EntryRecord E)). Within 1073741823 (num (get_or x t d).entry.width k)) (sym ee) (sound.sized k t d kc (omega arith));
+    sized-done = λ o k t d kc lt. subst (λ (x : List (EntryRecord E)). Within 1073741823 (num (get_or x t d).entry.width k)) (sym ee) (sound.sized-done (begun-open s.stage y) k t d kc (omega arith));
     lies = λ t d lt. subst (λ (x : List (EntryRecord E)). Lies (length (columns_in q.columns.now)) (get_or x t d)) (sym ee) (sound.lies t d (omega arith));
     lies-done = λ o t d lt. subst (λ (x : List (EntryRecord E)). Lies (length (columns_in q.columns.now)) (get_or x t d)) (sym ee) (sound.lies-done (begun-open s.stage y) t d (omega arith));
     begins = λ o. begins;

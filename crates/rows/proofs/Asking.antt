@@ -30,7 +30,7 @@ sides-stored num k (r ∷ rs) = ap (λ (x : List (Sized ℤ)). stored_by num k r
 
 pub all_lie_lem : {E : Type 0} (n : ℕ) (rs : List (EntryRecord E)) → AllByRecursion (Lies n) rs → all_lie n (map span_of rs) ≡ true
 all_lie_lem n [] h = refl
-all_lie_lem n (r ∷ rs) h = and_from (lie n (span_of r)) (all_lie n (map span_of rs)) (and_from _ _ (le-leb r.first r.last h.0.0) (lt-ltb r.last n h.0.1)) (all_lie_lem n rs h.1)
+all_lie_lem n (r ∷ rs) h = and_from (lie n (span_of r)) (all_lie n (map span_of rs)) (and_from _ _ (le-leb r.entry.first r.entry.last h.0.0) (lt-ltb r.entry.last n h.0.1)) (all_lie_lem n rs h.1)
 
 free : (n room widths gaps : ℕ) → 1 ≤ n → n ≤ 32 → n * 32 ≤ room → n ≤ widths → n < gaps → merge_fault n room widths gaps ≡ None
 free n room widths gaps a b c d e = grind (arith, nat_tests)
@@ -41,7 +41,7 @@ asks-fine n room widths gaps rs a b c d e h =
     ap (λ (o : Option Misfit). unless {X = Unit {0}} (or_else o (cond (all_lie n (map span_of rs)) None (Some Span))) tt) (free n room widths gaps a b (omega arith) (omega arith) e)
     ∙ ap (λ (x : Bool). unless {X = Unit {0}} (cond x None (Some Span)) tt) (all_lie_lem n rs h)
 
-pub tame_entries : {E : Type 0} (num : E → ℕ → ℤ) (k b : ℕ) (rs : List (EntryRecord E)) → AllByRecursion (λ r. Within b (num r.width k)) rs → AllByRecursion (λ e. Within b e.width) (on_side num k (map span_of rs))
+pub tame_entries : {E : Type 0} (num : E → ℕ → ℤ) (k b : ℕ) (rs : List (EntryRecord E)) → AllByRecursion (λ r. Within b (num r.entry.width k)) rs → AllByRecursion (λ e. Within b e.width) (on_side num k (map span_of rs))
 tame_entries num k b [] h = tt
 tame_entries num k b (r ∷ rs) h = (h.0, tame_entries num k b rs h.1)
 
@@ -57,7 +57,7 @@ proper-stored : {E : Type 0} (num : E → ℕ → ℤ) (k n : ℕ) (rs : List (E
 proper-stored num k n [] h = tt
 proper-stored num k n (r ∷ rs) h = (h.0, proper-stored num k n rs h.1)
 
-within-stored : {E : Type 0} (num : E → ℕ → ℤ) (k b : ℕ) (rs : List (EntryRecord E)) → AllByRecursion (λ r. Within b (num r.width k)) rs → AllByRecursion (λ e. Within b e.width) (map (stored_by num k) rs)
+within-stored : {E : Type 0} (num : E → ℕ → ℤ) (k b : ℕ) (rs : List (EntryRecord E)) → AllByRecursion (λ r. Within b (num r.entry.width k)) rs → AllByRecursion (λ e. Within b e.width) (map (stored_by num k) rs)
 within-stored num k b [] h = tt
 within-stored num k b (r ∷ rs) h = (h.0, within-stored num k b rs h.1)
 
@@ -72,7 +72,7 @@ sound-settles {E} count num wide q s m sound few start g a b k kc =
     subst (λ (xs : List (Sized ℤ)). Settled xs start g n (width (widest xs) g)) (sound.laid k kc)
     (merging_settles es start g n (width (widest es) g) few (proper-stored num k n rs (all_laid (Lies n) s.laid.entries m.entries.now sound.lies))
     (record {
-      entries = within-stored num k 1073741823 rs (all_laid (λ (r : EntryRecord E). Within 1073741823 (num r.width k)) s.laid.entries m.entries.now (λ t d lt. sound.sized k t d kc lt));
+      entries = within-stored num k 1073741823 rs (all_laid (λ (r : EntryRecord E). Within 1073741823 (num r.entry.width k)) s.laid.entries m.entries.now (λ t d lt. sound.sized k t d kc lt));
       starting = a;
       gaps = b;
     })

@@ -1,14 +1,16 @@
 -- What more items, entries and lines make of what is held.
-use Rattle.std.proofs.Common.{◌≡◌, ℕ, ◌+◌, ◌-◌, ◌<◌, ◌≤◌, List, [], ◌∷◌, ◌++◌, length, take, drop, set, sym, ap, ◌∙◌, subst, add-zero, arith}
+use Rattle.std.proofs.Common.{◌≡◌, ℕ, ◌+◌, ◌-◌, ◌<◌, ◌≤◌, List, [], ◌∷◌, ◌++◌, length, take, drop, set, sym, ap, ◌∙◌, subst, add-zero, refl, arith}
 use Rattle.std.proofs.lemmas.List.{length-take-le, length-drop, drop-append-le, drop_all, append-nil, take-set-le, take_more_set, length-set, take-append-drop, length-take}
 use Rattle.ledger.specs.declared.records.ItemRecord.{ItemRecord}
 use Rattle.rows.specs.declared.state.EntryRecord.{EntryRecord}
 use Rattle.rows.specs.declared.state.LineRecord.{LineRecord}
 use Rattle.rows.specs.declared.state.LineRecord.TheVariants.{Row}
+use Rattle.rows.specs.declared.state.Bare.{Bare}
+use Rattle.rows.specs.declared.state.Bare.TheVariants as bare
 use Rattle.rows.specs.declared.state.Marks.{Marks}
 use Rattle.ledger.specs.Chunks.{total}
 use Rattle.ledger.specs.Ledger.{Line}
-use Rattle.rows.specs.Held.{over, part, counted, entry_of, decoded_entries, rowed, line_of, decoded_lines, held_by, FitBy, pushed, closed, laid_down, emptied, ruled}
+use Rattle.rows.specs.Held.{over, part, counted, entry_of, decoded_entries, rowed, line_of, bare_record, decoded_lines, held_by, FitBy, pushed, closed, laid_down, emptied, ruled}
 use Rattle.ledger.specs.Items.{taken, meant, decoded_items}
 use Rattle.ledger.proofs.Cuts.{total-append, chunks-append, chunks-more, chunks-grow, length-chunks, chunks-one, total-one, chunks-none, total-none}
 use Rattle.rows.proofs.Overs.{length_over, take-over_below, part-over, length_part, take_part, set_over}
@@ -122,7 +124,7 @@ module _ {E : Type 0} (p : List ℕ) (n : ℕ) (k m : Marks) (b : ℕ) (ls : Lis
         let c = total-one counted entry_of e in
         rw entry-part (omega arith)
 
-    pub entry-held : held_by p n k (record { items = m.items; entries = m.entries + 1; text = m.text }) ls es' is t ≡ closed (held_by p n k m ls es is t) e.first e.last
+    pub entry-held : held_by p n k (record { items = m.items; entries = m.entries + 1; text = m.text }) ls es' is t ≡ closed (held_by p n k m ls es is t) e.entry.first e.entry.last
     entry-held =
         let oe = part k.entries m.entries es in
         let oa = decoded_items p (part k.items m.items is) (part k.text m.text t) in
@@ -294,3 +296,8 @@ module _ {E : Type 0} (p : List ℕ) (n : ℕ) (k m : Marks) (b : ℕ) (ls : Lis
           hand-items = fit.hand-items;
           hand-text = fit.hand-text;
         }
+
+-- a line without entries takes none
+pub bare-none : (b : Bare) → rowed (bare_record b) ≡ 0
+bare-none bare.Rule = refl
+bare-none (bare.Gap z) = refl

@@ -75,10 +75,10 @@ module _ {E : Type 0} (count : ℕ) (num : E → ℕ → ℤ) (wide : Item → �
       plus-zero a = omega (arith, ints)
 
   module _ (s' : State E) (m' : Memory E) (n : ℕ) (closed : s'.stage ≡ Closed) (he : s.marks.entries < length m.entries.now) (since : s.laid.entries ≤ s.marks.entries) (el : s'.laid.entries ≡ s.marks.entries + 1)
-      (ee : m'.entries.now ≡ set m.entries.now s.marks.entries (record { first = s.row.first; last = s.row.column; count = n; width = w }))
+      (ee : m'.entries.now ≡ set m.entries.now s.marks.entries (record { entry = record { first = s.row.first; last = s.row.column; width = w }; count = n }))
       (L : ledger_of q s' m' ≡ on_open (lays (templates_of q) (ledger_of q s m)) (ledger_of q s m) (ledger_of q s m).hand) where
     e : EntryRecord E
-    e = record { first = s.row.first; last = s.row.column; count = n; width = w }
+    e = record { entry = record { first = s.row.first; last = s.row.column; width = w }; count = n }
 
     shut : {P : Type 0} → open_in s'.stage ≡ true → P
     shut o = let t : ◌≡◌ {A = Bool} false true = sym (ap open_in closed) ∙ o in let u : ◌≡◌ {A = ℕ} 0 1 = cc in absurd (omega arith)
@@ -108,16 +108,16 @@ module _ {E : Type 0} (count : ℕ) (num : E → ℕ → ℤ) (wide : Item → �
         ∙ ap (map g) (lay_spans (templates_of q) s.stage s.row.column s.row.first (held_of q.text.now s m) y)
         ∙ map-append g (laid_entries (ledger_of q s m)) (D ++ x ∷ []) ∙ ap (λ (z : List (Sized ℤ)). map g (laid_entries (ledger_of q s m)) ++ z) (map-append g D (x ∷ [])))
 
-    new-sized : (k t : ℕ) (d : EntryRecord E) → k < count → t < s'.laid.entries → Within 1073741823 (num (get_or m'.entries.now t d).width k)
+    new-sized : (k t : ℕ) (d : EntryRecord E) → k < count → t < s'.laid.entries → Within 1073741823 (num (get_or m'.entries.now t d).entry.width k)
     unfolding e
     new-sized k t d kc h =
         let es = m.entries.now in
         let me = s.marks.entries in
         let o = begun-open s.stage y in
-        subst (λ (z : List (EntryRecord E)). Within 1073741823 (num (get_or z t d).width k)) (sym ee)
+        subst (λ (z : List (EntryRecord E)). Within 1073741823 (num (get_or z t d).entry.width k)) (sym ee)
         (⊎_elim
-        (λ same. subst (λ (z : EntryRecord E). Within 1073741823 (num z.width k)) (sym (ap (λ (i : ℕ). get_or (set es me e) i d) same ∙ get_or-set_same es me e d he)) (subst (Within 1073741823) (sym (entry-width k kc)) (sound.near o k kc)))
-        (λ ne. subst (λ (z : EntryRecord E). Within 1073741823 (num z.width k)) (sym (get_or-set_other es me t e d ne)) (sound.sized-done o k t d kc (omega arith)))
+        (λ same. subst (λ (z : EntryRecord E). Within 1073741823 (num z.entry.width k)) (sym (ap (λ (i : ℕ). get_or (set es me e) i d) same ∙ get_or-set_same es me e d he)) (subst (Within 1073741823) (sym (entry-width k kc)) (sound.near o k kc)))
+        (λ ne. subst (λ (z : EntryRecord E). Within 1073741823 (num z.entry.width k)) (sym (get_or-set_other es me t e d ne)) (sound.sized-done o k t d kc (omega arith)))
         (cases_eq t me))
 
     new-lies : (t : ℕ) (d : EntryRecord E) → t < s'.laid.entries → Lies (length (columns_in q.columns.now)) (get_or m'.entries.now t d)

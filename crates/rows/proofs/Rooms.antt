@@ -1,5 +1,5 @@
 -- Templates, stages and verdicts, by the numbers that the code compares.
-use Rattle.std.proofs.Common.{◌≡◌, ℕ, ◌+◌, ◌<◌, ◌≤◌, Bool, true, false, cond, eqb, List, [], ◌∷◌, ◌++◌, length, take, drop, Some, sym, refl, ap, ◌∙◌, arith}
+use Rattle.std.proofs.Common.{◌≡◌, ℕ, ◌+◌, ◌-◌, ◌<◌, ◌≤◌, Bool, true, false, cond, eqb, List, [], ◌∷◌, ◌++◌, length, take, drop, Some, sym, refl, ap, ◌∙◌, arith}
 use Rattle.std.specs.List.{flat_map}
 use Rattle.std.proofs.lemmas.List.{length-take-le, length-drop, take-append-drop, get_or-map, append-nil}
 use Rattle.std.proofs.lemmas.Bool.Decides.{nat_tests}
@@ -37,6 +37,10 @@ zero-part {R} size xs a n z =
 
 pub length-piece : {X : Type 0} (xs : List X) (a n : ℕ) → a + n ≤ length xs → length (take n (drop a xs)) ≡ n
 length-piece xs a n h = let k : n ≤ length (drop a xs) = simp length-drop (omega arith) in length-take-le n (drop a xs) k
+
+-- .. as a slice from a to a + n takes it
+pub piece-is : {X : Type 0} (xs : List X) (a n : ℕ) → take ((a + n) - a) (drop a xs) ≡ take n (drop a xs)
+piece-is xs a n = let e : (a + n) - a ≡ n = omega arith in ap (λ (i : ℕ). take i (drop a xs)) e
 
 module _ {E : Type 0} (q : Preamble E) (c : ℕ) (h : c < length (columns_in q.columns.now)) where
   pub template_is : template_at (templates_of q) c ≡ template_of q (column_at (columns_in q.columns.now) c)

@@ -54,10 +54,10 @@ module _ {E : Type 0} (count : ℕ) (num : E → ℕ → ℤ) (wide : Item → �
   laid-again k kc =
       ap (λ (n : ℕ). map (stored_by num k) (take n m'.entries.now)) el ∙ ap (map (stored_by num k)) te ∙ sound.laid k kc ∙ ap (map (natural_by wide k)) (sym ll)
 
-  sized-again : (k t : ℕ) (d : EntryRecord E) → k < count → t < s'.laid.entries → Within 1073741823 (num (get_or m'.entries.now t d).width k)
+  sized-again : (k t : ℕ) (d : EntryRecord E) → k < count → t < s'.laid.entries → Within 1073741823 (num (get_or m'.entries.now t d).entry.width k)
   sized-again k t d kc h =
       let lt : t < s.laid.entries = omega arith in
-      subst (λ (e : EntryRecord E). Within 1073741823 (num e.width k))
+      subst (λ (e : EntryRecord E). Within 1073741823 (num e.entry.width k))
       (sym (get_or-take s.laid.entries m.entries.now t d lt) ∙ ap (λ (z : List (EntryRecord E)). get_or z t d) (sym te) ∙ get_or-take s.laid.entries m'.entries.now t d lt)
       (sound.sized k t d kc lt)
 
@@ -93,7 +93,7 @@ module _ {E : Type 0} (count : ℕ) (num : E → ℕ → ℤ) (wide : Item → �
   pub open-sound : ((k : ℕ) → k < count → num s'.row.width k ≡ natural wide (items_now (ledger_of q s' m').hand) k)
       → ((k : ℕ) → k < count → Within 1073741823 (natural wide (items_now (ledger_of q s' m').hand) k +ℤ natural wide (owed_of (templates_of q) (ledger_of q s' m').hand) k))
       → ((k : ℕ) → k < count → map (stored_by num k) (part s'.laid.entries s'.marks.entries m'.entries.now) ≡ map (natural_by wide k) (done_of (ledger_of q s' m').hand))
-      → ((k t : ℕ) (d : EntryRecord E) → k < count → t < s'.marks.entries → Within 1073741823 (num (get_or m'.entries.now t d).width k))
+      → ((k t : ℕ) (d : EntryRecord E) → k < count → t < s'.marks.entries → Within 1073741823 (num (get_or m'.entries.now t d).entry.width k))
       → ((t : ℕ) (d : EntryRecord E) → t < s'.marks.entries → Lies (length (columns_in q.columns.now)) (get_or m'.entries.now t d))
       → s'.row.first ≤ s'.row.column
       → Sound count num wide q s' m'
@@ -133,7 +133,7 @@ module _ {E : Type 0} (count : ℕ) (num : E → ℕ → ℤ) (wide : Item → �
   same-sound o em ee done row near begins = open-sound row near
       (λ k kc. ap (λ (n : ℕ). map (stored_by num k) (part n s'.marks.entries m'.entries.now)) el ∙ ap (λ (n : ℕ). map (stored_by num k) (part s.laid.entries n m'.entries.now)) em
       ∙ ap (λ (z : List (EntryRecord E)). map (stored_by num k) (part s.laid.entries s.marks.entries z)) ee ∙ sound.done o k kc ∙ ap (map (natural_by wide k)) (sym done))
-      (λ k t d kc h. subst (λ (z : List (EntryRecord E)). Within 1073741823 (num (get_or z t d).width k)) (sym ee) (sound.sized-done o k t d kc (omega arith)))
+      (λ k t d kc h. subst (λ (z : List (EntryRecord E)). Within 1073741823 (num (get_or z t d).entry.width k)) (sym ee) (sound.sized-done o k t d kc (omega arith)))
       (λ t d h. subst (λ (z : List (EntryRecord E)). Lies (length (columns_in q.columns.now)) (get_or z t d)) (sym ee) (sound.lies-done o t d (omega arith))) begins
 
 -- the parts of a ledger whose cell is started
@@ -205,11 +205,11 @@ sized_as a b z = record { first = a; last = b; width = z }
 module _ {E : Type 0} (count : ℕ) (num : E → ℕ → ℤ) (wide : Item → ℕ → ℤ) (q : Preamble E) (s s' : State E) (m m' : Memory E) (sound : Sound count num wide q s m) (b : begun_in s.stage ≡ true) (w : E) (n : ℕ)
     (width : (k : ℕ) → k < count → num w k ≡ natural wide (items_now (ledger_of q s m).hand) k +ℤ natural wide (owed_of (templates_of q) (ledger_of q s m).hand) k)
     (el : s'.laid.entries ≡ s.laid.entries) (em : s'.marks.entries ≡ s.marks.entries + 1) (since : s.laid.entries ≤ s.marks.entries) (he : s.marks.entries < length m.entries.now)
-    (ee : m'.entries.now ≡ set m.entries.now s.marks.entries (record { first = s.row.first; last = s.row.column; count = n; width = w }))
+    (ee : m'.entries.now ≡ set m.entries.now s.marks.entries (record { entry = record { first = s.row.first; last = s.row.column; width = w }; count = n }))
     (L : ledger_of q s' m' ≡ on_open (tabs (templates_of q) (ledger_of q s m)) (ledger_of q s m) (ledger_of q s m).hand) (ll : laid_entries (ledger_of q s' m') ≡ laid_entries (ledger_of q s m))
     (zero : (k : ℕ) → k < count → num s'.row.width k ≡ pos 0) (lt : s.row.column < length (columns_in q.columns.now)) (begins : s'.row.first ≤ s'.row.column) where
   new : EntryRecord E
-  new = record { first = s.row.first; last = s.row.column; count = n; width = w }
+  new = record { entry = record { first = s.row.first; last = s.row.column; width = w }; count = n }
 
   finishes : Entry
   finishes = record { first = s.row.first; last = s.row.column; items = items_now (ledger_of q s m).hand ++ owed_of (templates_of q) (ledger_of q s m).hand }
@@ -237,16 +237,16 @@ module _ {E : Type 0} (count : ℕ) (num : E → ℕ → ℤ) (wide : Item → �
       ∙ ap (λ (z : List (Sized ℤ)). z ++ f new ∷ []) (sound.done (begun-open s.stage b) k kc) ∙ ap (λ (z : Sized ℤ). map g (done_of (ledger_of q s m).hand) ++ z ∷ []) (new_is k kc)
       ∙ sym (ap (λ (x : Ledger). map g (done_of x.hand)) L ∙ ap (map g) (tab_done (templates_of q) s.row.column s.row.first (held_of q.text.now s m) s.stage b) ∙ map-append g (done_of (ledger_of q s m).hand) (finishes ∷ []))
 
-  sized-more : (k t : ℕ) (d : EntryRecord E) → k < count → t < s'.marks.entries → Within 1073741823 (num (get_or m'.entries.now t d).width k)
+  sized-more : (k t : ℕ) (d : EntryRecord E) → k < count → t < s'.marks.entries → Within 1073741823 (num (get_or m'.entries.now t d).entry.width k)
   unfolding new
   sized-more k t d kc h =
       let es = m.entries.now in
       let me = s.marks.entries in
       let o = begun-open s.stage b in
-      subst (λ (z : List (EntryRecord E)). Within 1073741823 (num (get_or z t d).width k)) (sym ee)
+      subst (λ (z : List (EntryRecord E)). Within 1073741823 (num (get_or z t d).entry.width k)) (sym ee)
       (⊎_elim
-      (λ same. subst (λ (z : EntryRecord E). Within 1073741823 (num z.width k)) (sym (ap (λ (i : ℕ). get_or (set es me new) i d) same ∙ get_or-set_same es me new d he)) (subst (Within 1073741823) (sym (width k kc)) (sound.near o k kc)))
-      (λ ne. subst (λ (z : EntryRecord E). Within 1073741823 (num z.width k)) (sym (get_or-set_other es me t new d ne)) (sound.sized-done o k t d kc (omega arith)))
+      (λ same. subst (λ (z : EntryRecord E). Within 1073741823 (num z.entry.width k)) (sym (ap (λ (i : ℕ). get_or (set es me new) i d) same ∙ get_or-set_same es me new d he)) (subst (Within 1073741823) (sym (width k kc)) (sound.near o k kc)))
+      (λ ne. subst (λ (z : EntryRecord E). Within 1073741823 (num z.entry.width k)) (sym (get_or-set_other es me t new d ne)) (sound.sized-done o k t d kc (omega arith)))
       (cases_eq t me))
 
   lies_more : (t : ℕ) (d : EntryRecord E) → t < s'.marks.entries → Lies (length (columns_in q.columns.now)) (get_or m'.entries.now t d)

@@ -14,6 +14,8 @@ use Rattle.rows.specs.declared.state.Cell.TheVariants as cell
 use Rattle.ledger.specs.declared.records.Column.{Column}
 use Rattle.rows.specs.declared.preamble.Preamble.{Preamble}
 use Rattle.rows.specs.Columns.{columns_in, column_at}
+use Rattle.rows.specs.declared.draft.Draft.{Draft}
+use Rattle.rows.specs.declared.state.EntryRecord.{EntryRecord}
 use Rattle.rows.specs.Held.{Fit, Held, held_of}
 use Rattle.ledger.specs.Items.{u_in, v_in, template_in}
 
@@ -119,6 +121,13 @@ pub record Lens : Type 0 where
 
 abbrev pub lens_of : {E : Type 0} → Memory E → Lens
 lens_of m = record { items = length m.items.now; entries = length m.entries.now; lines = length m.lines.now; text = length m.text.now }
+
+-- what a step makes of a draft: f of what is held, es in the memory of the entries; the marks fit, and no slice has another length
+pub record Acts {E : Type 0} (f : List ℕ → Held → Held) (es : List (EntryRecord E)) (d d' : Draft E) : Type 0 where
+  pub held : (p : List ℕ) → held_of p d'.state d'.memory ≡ f p (held_of p d.state d.memory)
+  pub fit : Fit d'.state d'.memory
+  pub entries : d'.memory.entries.now ≡ es
+  pub lens : lens_of d'.memory ≡ lens_of d.memory
 
 -- stages
 abbrev pub open_in : Stage → Bool

@@ -1,12 +1,14 @@
 ghost use Rattle.std.specs.Prelude.{◌≡◌, ℕ, ◌+◌, ◌-◌, ◌*◌, ◌<◌, ◌≤◌, List, [], ◌∷◌, ◌++◌, length, set};
 ghost use Rattle.ledger.specs.Chunks.{total};
-ghost use Rattle.rows.specs.Good.{moved, moved_on, ended, based, lined, back, lens_of};
-ghost use Rattle.rows.specs.Held.{over, held_of, Fit, pushed, closed, laid_down, emptied, ruled, rowed, line_of};
+ghost use Rattle.rows.specs.Good.{Acts, moved, moved_on, ended, based, lined, back};
+ghost use Rattle.rows.specs.Held.{over, Fit, pushed, closed, laid_down, emptied, ruled, bare_line};
 ghost use Rattle.ledger.specs.Items.{meant, taken, decoded_items};
 
 use crate::draft::Draft;
-use crate::state::{EntryRecord, LineRecord};
+use crate::puts::Put;
+use crate::state::{Bare, EntryRecord, LineRecord};
 use ledger::records::ItemRecord;
+use widths::Entry;
 
 fn write<T: Copy>(all: &mut [T], place: usize, part: &[T])
     requires { place + length part.now ≤ length all.old }
@@ -17,23 +19,19 @@ fn write<T: Copy>(all: &mut [T], place: usize, part: &[T])
 
 impl<'a, E: Copy> Draft<'a, E> {
     /// One more item, with the bytes of its word.
-    pub(crate) fn add_item(&mut self, it: ItemRecord, word: &[u8])
+    pub(crate) fn add_item(&mut self, put: Put<E>)
         requires fit { Fit self.old.state self.old.memory }
         requires items { self.old.state.marks.items < length self.old.memory.items.now }
-        requires text { self.old.state.marks.text + length word.now ≤ length self.old.memory.text.now }
-        requires bytes { taken it ≡ length word.now }
-        ensures held { (p : List ℕ) → held_of p self.new.state self.new.memory ≡ pushed (held_of p self.old.state self.old.memory) (meant p it word.now ∷ []) }
-        ensures fit { Fit self.new.state self.new.memory }
-        ensures state { self.new.state ≡ moved self.old.state 1 (length word.now) }
-        ensures lens { lens_of self.new.memory ≡ lens_of self.old.memory }
-        ensures entries { self.new.memory.entries.now ≡ self.old.memory.entries.now }
+        requires text { self.old.state.marks.text + length put.word.now ≤ length self.old.memory.text.now }
+        ensures acts { Acts (λ p h. pushed h (meant p put.entry.item put.entry.word.now ∷ [])) self.old.memory.entries.now self.old self.new }
+        ensures state { self.new.state ≡ moved self.old.state 1 (length put.entry.word.now) }
     {
         let at = self.state.marks.items;
         let place = self.state.marks.text;
-        write(self.memory.text, place, word);
-        self.memory.items[at] = it;
+        write(self.memory.text, place, put.word);
+        self.memory.items[at] = put.item;
         self.state.marks.items = at + 1;
-        self.state.marks.text = place + word.len();
+        self.state.marks.text = place + put.word.len();
     }
 
     /// More items, of a template.
@@ -41,11 +39,8 @@ impl<'a, E: Copy> Draft<'a, E> {
         requires fit { Fit self.old.state self.old.memory }
         requires items { self.old.state.marks.items + length pieces.now ≤ length self.old.memory.items.now }
         requires bytes { total taken pieces.now ≡ 0 }
-        ensures held { (p : List ℕ) → held_of p self.new.state self.new.memory ≡ pushed (held_of p self.old.state self.old.memory) (decoded_items p pieces.now []) }
-        ensures fit { Fit self.new.state self.new.memory }
+        ensures acts { Acts (λ p h. pushed h (decoded_items p pieces.now [])) self.old.memory.entries.now self.old self.new }
         ensures state { self.new.state ≡ moved_on self.old.state (length pieces.now) }
-        ensures lens { lens_of self.new.memory ≡ lens_of self.old.memory }
-        ensures entries { self.new.memory.entries.now ≡ self.old.memory.entries.now }
     {
         let at = self.state.marks.items;
         write(self.memory.items, at, pieces);
@@ -56,21 +51,18 @@ impl<'a, E: Copy> Draft<'a, E> {
     pub(crate) fn end_entry(&mut self, last: usize)
         requires fit { Fit self.old.state self.old.memory }
         requires entries { self.old.state.marks.entries < length self.old.memory.entries.now }
-        ensures held { (p : List ℕ) → held_of p self.new.state self.new.memory ≡ closed (held_of p self.old.state self.old.memory) self.old.state.row.first last }
-        ensures fit { Fit self.new.state self.new.memory }
+        ensures acts { Acts (λ p h. closed h self.old.state.row.first last) (set self.old.memory.entries.now self.old.state.marks.entries (record { entry = record { first = self.old.state.row.first; last = last; width = self.old.state.row.width }; count = self.old.state.marks.items - self.old.state.row.begin })) self.old self.new }
         ensures state { self.new.state ≡ ended self.old.state }
-        ensures lens { lens_of self.new.memory ≡ lens_of self.old.memory }
-        ensures entries { self.new.memory.entries.now ≡ set self.old.memory.entries.now self.old.state.marks.entries (record { first = self.old.state.row.first; last = last; count = self.old.state.marks.items - self.old.state.row.begin; width = self.old.state.row.width }) }
     {
         let at = self.state.marks.entries;
         let row = self.state.row;
         let count = self.state.marks.items - row.begin;
-        self.memory.entries[at] = EntryRecord {
+        let entry = Entry {
             first: row.first,
             last,
-            count,
             width: row.width,
         };
+        self.memory.entries[at] = EntryRecord { entry, count };
         self.state.marks.entries = at + 1;
         self.state.row.begin = self.state.marks.items;
     }
@@ -80,11 +72,8 @@ impl<'a, E: Copy> Draft<'a, E> {
         requires fit { Fit self.old.state self.old.memory }
         requires lines { self.old.state.lines < length self.old.memory.lines.now }
         requires begin { self.old.state.row.begin ≡ self.old.state.marks.items }
-        ensures held { (p : List ℕ) → held_of p self.new.state self.new.memory ≡ laid_down (held_of p self.old.state self.old.memory) }
-        ensures fit { Fit self.new.state self.new.memory }
+        ensures acts { Acts (λ p h. laid_down h) self.old.memory.entries.now self.old self.new }
         ensures state { self.new.state ≡ based self.old.state }
-        ensures lens { lens_of self.new.memory ≡ lens_of self.old.memory }
-        ensures entries { self.new.memory.entries.now ≡ self.old.memory.entries.now }
     {
         let n = self.state.lines;
         let count = self.state.marks.entries - self.state.laid.entries;
@@ -94,29 +83,22 @@ impl<'a, E: Copy> Draft<'a, E> {
     }
 
     /// A line without entries.
-    pub(crate) fn add_bare(&mut self, line: LineRecord)
+    pub(crate) fn add_bare(&mut self, line: Bare)
         requires fit { Fit self.old.state self.old.memory }
         requires lines { self.old.state.lines < length self.old.memory.lines.now }
-        requires bare { rowed line ≡ 0 }
-        ensures held { (p : List ℕ) → held_of p self.new.state self.new.memory ≡ ruled (held_of p self.old.state self.old.memory) (line_of line []) }
-        ensures fit { Fit self.new.state self.new.memory }
+        ensures acts { Acts (λ p h. ruled h (bare_line line)) self.old.memory.entries.now self.old self.new }
         ensures state { self.new.state ≡ lined self.old.state }
-        ensures lens { lens_of self.new.memory ≡ lens_of self.old.memory }
-        ensures entries { self.new.memory.entries.now ≡ self.old.memory.entries.now }
     {
         let n = self.state.lines;
-        self.memory.lines[n] = line;
+        self.memory.lines[n] = line.into();
         self.state.lines = n + 1;
     }
 
     /// Back to what is laid.
     pub(crate) fn go_back(&mut self)
         requires fit { Fit self.old.state self.old.memory }
-        ensures held { (p : List ℕ) → held_of p self.new.state self.new.memory ≡ emptied (held_of p self.old.state self.old.memory) }
-        ensures fit { Fit self.new.state self.new.memory }
+        ensures acts { Acts (λ p h. emptied h) self.old.memory.entries.now self.old self.new }
         ensures state { self.new.state ≡ back self.old.state }
-        ensures lens { lens_of self.new.memory ≡ lens_of self.old.memory }
-        ensures entries { self.new.memory.entries.now ≡ self.old.memory.entries.now }
     {
         self.state.marks = self.state.laid;
         self.state.row.begin = self.state.laid.items;

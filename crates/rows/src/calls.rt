@@ -3,13 +3,13 @@ ghost use Rattle.std.specs.Prelude.{◌≡◌, ℕ, ◌≤◌, [], ℤ, Ok};
 ghost use Rattle.ledger.specs.Ledger.{Item};
 ghost use Rattle.ledger.specs.Naturals.{start_verdict};
 ghost use Rattle.ledger.specs.Calls.{take_verdict, omit_verdict, lay_verdict, tab_verdict, span_verdict, next_verdict, rule_verdict, opened, omits, on_open, lays, tabs, carries, gives_up, ruled_by, starts};
-ghost use Rattle.rows.specs.Held.{rowed, line_of};
+ghost use Rattle.rows.specs.Held.{bare_line};
 ghost use Rattle.rows.specs.Good.{Goes};
 ghost use Rattle.rows.specs.Answers.{unless, followed};
 ghost use Rattle.rows.specs.Views.{templates_at, room_at, ledger_at, in_hand, SoundAt, Stays, StaysSound};
 
 use crate::rows::Rows;
-use crate::state::{Cell, LineRecord, Row, Stage};
+use crate::state::{Bare, Cell, Row, Stage};
 use extent::Extent;
 use faults::{Cause, Fault};
 use ledger::records::Room;
@@ -25,7 +25,7 @@ impl<'a, 'p, E: Extent> Rows<'a, 'p, E> {
     {
         let state = self.draft.state;
         state.check_closed()?;
-        let template = self.template(0);
+        let template = self.column(0).template;
         self.draft.memory.check_room(Room {
             items: state.laid.items + (template.u + template.v),
             entries: state.laid.entries + 1,
@@ -65,14 +65,15 @@ impl<'a, 'p, E: Extent> Rows<'a, 'p, E> {
         let state = self.draft.state;
         state.check_cell(Cell::Fresh(column))?;
         let row = state.row;
-        let widths = self.widths(row.column);
+        let widths = self.column(row.column).widths;
         let sum = row.width.sum(widths.u);
         if outside(sum.sum(widths.v)) {
             return Err(Cause::EntryTooWide.at(0));
         }
-        let template = self.template(row.column);
+        let template = self.column(row.column).template;
+        let end = template.from + template.u;
         self.draft
-            .add_pieces(self.preamble.pieces, template.from, template.u);
+            .add_part(&self.preamble.pieces[template.from..end]);
         self.draft.state.row.width = sum;
         self.draft.state.stage = Stage::Begun;
         Ok(())
@@ -90,8 +91,8 @@ impl<'a, 'p, E: Extent> Rows<'a, 'p, E> {
         if next >= self.preamble.count() {
             return Err(Cause::TooManyColumns.at(0));
         }
-        let there = self.template(next);
-        let owed = state.stage.owed(self.template(state.row.column));
+        let there = self.column(next).template;
+        let owed = state.stage.owed(self.column(state.row.column).template);
         self.draft.memory.check_room(Room {
             items: state.marks.items + owed + (there.u + there.v),
             entries: state.marks.entries + 1 + more,
@@ -151,10 +152,9 @@ impl<'a, 'p, E: Extent> Rows<'a, 'p, E> {
     }
 
     /// Adds a line without entries.
-    pub fn rule(&mut self, line: LineRecord) -> Result<(), Fault>
-        requires { rowed line ≡ 0 }
+    pub fn rule(&mut self, line: Bare) -> Result<(), Fault>
         ensures answer { result ≡ unless (rule_verdict (templates_at self.old) (room_at self.old) (ledger_at self.old)) tt }
-        ensures ledger { ledger_at self.new ≡ followed result (ledger_at self.old) (ruled_by (line_of line []) (ledger_at self.old)) }
+        ensures ledger { ledger_at self.new ≡ followed result (ledger_at self.old) (ruled_by (bare_line line) (ledger_at self.old)) }
         ensures sound { StaysSound E.count E.num self.old self.new }
         ensures stays { Stays self.old self.new }
     {

@@ -1,10 +1,10 @@
-ghost use Rattle.std.specs.Prelude.{◌≡◌, ℕ, ◌<◌, length, get_or};
-ghost use Rattle.ledger.specs.declared.records.Owed.{Owed as Parts};
+ghost use Rattle.std.specs.Prelude.{◌≡◌, ◌<◌, length, get_or};
+ghost use Rattle.ledger.specs.declared.records.Owed.{Owed};
 ghost use Rattle.rows.specs.Columns.{columns_in, widths_in, column_at};
 
 use crate::preamble::Preamble;
 use crate::rows::Rows;
-use ledger::records::{Column, Owed};
+use ledger::records::ColumnRecord;
 
 impl<'a, E: Copy> Preamble<'a, E> {
     /// How many columns there are.
@@ -14,38 +14,24 @@ impl<'a, E: Copy> Preamble<'a, E> {
         self.columns.len()
     }
 
-    /// The template of a column.
-    pub(crate) fn template(&self, at: usize) -> Column
+    /// A column: its template, and the natural widths of the template's parts.
+    pub(crate) fn column(&self, at: usize) -> ColumnRecord<E>
         requires { at < length (columns_in self.now.columns.now) }
-        ensures { result ≡ column_at (columns_in self.now.columns.now) at }
+        ensures template { result.template ≡ column_at (columns_in self.now.columns.now) at }
+        ensures widths { (d : Owed E) → result.widths ≡ get_or (widths_in self.now.columns.now) at d }
     {
-        self.columns[at].template
-    }
-
-    /// The natural widths of a template's parts.
-    pub(crate) fn widths(&self, at: usize) -> Owed<E>
-        requires { at < length (columns_in self.now.columns.now) }
-        ensures { (d : Parts E) → result ≡ get_or (widths_in self.now.columns.now) at d }
-    {
-        self.columns[at].widths
+        self.columns[at]
     }
 }
 
-// The same of rows: a call that changes them reads its preamble through these, as a loan of that field alone is not covered.
+// The same of rows: a call that changes them reads its preamble through this, as a loan of that field alone is not covered.
 impl<'a, 'p, E: Copy> Rows<'a, 'p, E> {
-    /// The template of a column.
-    pub(crate) fn template(&self, at: usize) -> Column
+    /// A column: its template, and the natural widths of the template's parts.
+    pub(crate) fn column(&self, at: usize) -> ColumnRecord<E>
         requires { at < length (columns_in self.now.preamble.columns.now) }
-        ensures { result ≡ column_at (columns_in self.now.preamble.columns.now) at }
+        ensures template { result.template ≡ column_at (columns_in self.now.preamble.columns.now) at }
+        ensures widths { (d : Owed E) → result.widths ≡ get_or (widths_in self.now.preamble.columns.now) at d }
     {
-        self.preamble.template(at)
-    }
-
-    /// The natural widths of a template's parts.
-    pub(crate) fn widths(&self, at: usize) -> Owed<E>
-        requires { at < length (columns_in self.now.preamble.columns.now) }
-        ensures { (d : Parts E) → result ≡ get_or (widths_in self.now.preamble.columns.now) at d }
-    {
-        self.preamble.widths(at)
+        self.preamble.column(at)
     }
 }

@@ -9,7 +9,7 @@ mod columns;
 pub mod draft;
 mod parts;
 pub mod preamble;
-mod puts;
+pub mod puts;
 mod room;
 pub mod rows;
 pub mod spanned;

@@ -8,10 +8,6 @@ impl<E: Copy> Spanned<E> for EntryRecord<E> {
     ghost entry = { λ e. span_of e };
 
     fn span(self) -> Entry<E> {
-        Entry {
-            first: self.first,
-            last: self.last,
-            width: self.width,
-        }
+        self.entry
     }
 }

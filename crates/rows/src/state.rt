@@ -1,24 +1,44 @@
+ghost use Rattle.std.specs.Prelude.{◌≡◌};
+ghost use Rattle.rows.specs.Held.{bare_record};
+
 use ledger::records::ItemRecord;
+use widths::Entry;
 
 /// An entry takes the next `count` items.
 #[derive(Clone, Copy)]
 pub struct EntryRecord<E> {
-    pub first: usize,
-    pub last: usize,
+    pub entry: Entry<E>,
     pub count: usize,
-    pub width: E,
 }
 
 /// A row takes the next entries, as many as it says.
-#[derive(Clone, Copy)]
+#[derive(Clone, Copy, PartialEq, Eq, Debug)]
 pub enum LineRecord {
     Row(usize),
     Rule,
     Gap(i64),
 }
 
+/// A line without entries.
+#[derive(Clone, Copy, PartialEq, Eq, Debug)]
+pub enum Bare {
+    Rule,
+    Gap(i64),
+}
+
+impl From<Bare> for LineRecord {
+    ghost from_gives = { λ line r. r ≡ bare_record line };
+
+    fn from(line: Bare) -> LineRecord {
+        match line {
+            Bare::Rule => LineRecord::Rule,
+            Bare::Gap(sp) => LineRecord::Gap(sp),
+        }
+    }
+}
+
 /// How far the lent memory is used.
-#[derive(Clone, Copy)]
+#[derive(Clone, Copy, PartialEq, Eq, Debug)]
 pub struct Marks {
     pub items: usize,
     pub entries: usize,
@@ -44,7 +64,7 @@ pub enum Stage {
 }
 
 /// The entry being built: the column of its cell, its first column, its first item, its width so far.
-#[derive(Clone, Copy)]
+#[derive(Clone, Copy, PartialEq, Eq, Debug)]
 pub struct Row<E> {
     pub column: usize,
     pub first: usize,
@@ -54,7 +74,7 @@ pub struct Row<E> {
 
 /// What is laid lies below `laid`, the row in hand between `laid` and `marks`: marks in lent memory, since the device has
 /// no heap. The row in hand stands beside the stage: each step on it runs only where there is one, and would open an `Option`.
-#[derive(Clone, Copy)]
+#[derive(Clone, Copy, PartialEq, Eq, Debug)]
 pub struct State<E> {
     pub lines: usize,
     pub laid: Marks,

@@ -36,8 +36,8 @@ returns-in_err-check_room-clause-answer g c =
     let k2 = q.parts (col + 1) next in
     let h2 = column_at (columns_in q.columns.now) (col + 1) in
     let full = (stopped _ _ _ c.in_err-check_room.ensures).0
-    ∙ ap (λ (x : Column). lacking (room_in m) (s.marks.items + c.owed-owed.result + (x.u + x.v)) (s.marks.entries + 1 + c.args.more) (s.lines + 1) s.marks.text) c.template-there.ensures
-    ∙ ap (λ (i : ℕ). lacking (room_in m) (s.marks.items + i + (h2.u + h2.v)) (s.marks.entries + 1 + c.args.more) (s.lines + 1) s.marks.text) (c.owed-owed.ensures ∙ ap (owed s.stage) c.template.ensures) in
+    ∙ ap (λ (x : Column). lacking (room_in m) (s.marks.items + c.owed-owed.result + (x.u + x.v)) (s.marks.entries + 1 + c.args.more) (s.lines + 1) s.marks.text) c.column.ensures.template
+    ∙ ap (λ (i : ℕ). lacking (room_in m) (s.marks.items + i + (h2.u + h2.v)) (s.marks.entries + 1 + c.args.more) (s.lines + 1) s.marks.text) (c.owed-owed.ensures ∙ ap (owed s.stage) c.column-2.ensures.template) in
     let eqs = next-lacks q p s.lines s.laid s.marks s.row.begin m.lines.now m.entries.now m.items.now m.text.now fit col s.row.first lt k s.stage b (room_in m) c.args.more h2.u h2.v (u-length q (col + 1) next k2) (v-length q (col + 1) next k2) in
     let answered : c.from_residual-in_err-check_room.result ≡ Err c.in_err-check_room.field-0.0 = search rules in
     answered ∙ refused _ table_full _ tt (stopped _ _ _ c.in_err-check_room.ensures).1 (next-verdict c.args.more P (room_in m) G col d false true same at past (full ∙ sym eqs))
@@ -66,8 +66,8 @@ returns g c =
     let k2 = q.parts (col + 1) next in
     let h2 = column_at (columns_in q.columns.now) (col + 1) in
     let full = sym (vacant _ _ c.in_ok-check_room.ensures)
-    ∙ ap (λ (x : Column). lacking (room_in m) (s.marks.items + c.owed-owed.result + (x.u + x.v)) (s.marks.entries + 1 + c.args.more) (s.lines + 1) s.marks.text) c.template-there.ensures
-    ∙ ap (λ (i : ℕ). lacking (room_in m) (s.marks.items + i + (h2.u + h2.v)) (s.marks.entries + 1 + c.args.more) (s.lines + 1) s.marks.text) (c.owed-owed.ensures ∙ ap (owed s.stage) c.template.ensures) in
+    ∙ ap (λ (x : Column). lacking (room_in m) (s.marks.items + c.owed-owed.result + (x.u + x.v)) (s.marks.entries + 1 + c.args.more) (s.lines + 1) s.marks.text) c.column.ensures.template
+    ∙ ap (λ (i : ℕ). lacking (room_in m) (s.marks.items + i + (h2.u + h2.v)) (s.marks.entries + 1 + c.args.more) (s.lines + 1) s.marks.text) (c.owed-owed.ensures ∙ ap (owed s.stage) c.column-2.ensures.template) in
     let eqs = next-lacks q p s.lines s.laid s.marks s.row.begin m.lines.now m.entries.now m.items.now m.text.now fit col s.row.first lt k s.stage b (room_in m) c.args.more h2.u h2.v (u-length q (col + 1) next k2) (v-length q (col + 1) next k2) in
     let en = enough (room_in m) (s.marks.items + owed s.stage (column_at (columns_in q.columns.now) col) + (h2.u + h2.v)) (s.marks.entries + 1 + c.args.more) (s.lines + 1) s.marks.text (sym full) in
     record {

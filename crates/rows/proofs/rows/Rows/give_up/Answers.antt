@@ -34,9 +34,9 @@ returns-then-holds g c =
     let here : in_hand c.args.cell (hand_by s.stage s.row.column s.row.first held) ≡ true = held-in s.stage s.row.column s.row.first c.args.cell held ∙ sym c.holds.ensures ∙ c.if-holds.true in
     let none : Ledger = record { lines = held.lines; hand = None } in
     record {
-      ledger = ap (λ (h : Held). record { lines = h.lines; hand = None }) (a.held p) ∙ sym (ap (λ (b : Bool). cond b none (ledger_of q s m)) here);
+      ledger = ap (λ (h : Held). record { lines = h.lines; hand = None }) (a.acts.held p) ∙ sym (ap (λ (b : Bool). cond b none (ledger_of q s m)) here);
       sound = λ wide sound.
           closed-sound g.E.Extent.count g.E.Extent.num wide q s (record { lines = s'.lines; laid = s'.laid; marks = s'.marks; stage = Closed; row = s'.row }) m m' sound
-          e-laid (ap (take s.laid.entries) a.entries) (ap (λ (h : Held). flat_map entries_in h.lines) (a.held p)) refl;
-      stays = record { preamble = refl; lens = a.lens };
+          e-laid (ap (take s.laid.entries) a.acts.entries) (ap (λ (h : Held). flat_map entries_in h.lines) (a.acts.held p)) refl;
+      stays = record { preamble = refl; lens = a.acts.lens };
     }

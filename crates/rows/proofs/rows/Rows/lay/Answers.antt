@@ -22,7 +22,7 @@ returns-clause-ledger g c =
     let o = begun-one s.stage b in
     let lt : col < length (columns_in q.columns.now) = omega arith in
     let s' = c.end_row.new.self.state in
-    lay_ledger q s.stage col s.row.first (held_of p s m) lt b s'.row.column s'.row.first (held_of p s' c.end_row.new.self.memory) (c.end_row.ensures.held p ∙ ap laid_down (c.finish.ensures.held p))
+    lay_ledger q s.stage col s.row.first (held_of p s m) lt b s'.row.column s'.row.first (held_of p s' c.end_row.new.self.memory) (c.end_row.ensures.acts.held p ∙ ap laid_down (c.finish.ensures.acts.held p))
 
 pub returns-clause-sound : goal.returns-clause-sound
 returns-clause-sound g c =
@@ -40,7 +40,7 @@ returns-clause-sound g c =
     let s' = c.end_row.new.self.state in
     let e-entries = ap (λ (x : State g.row.E.Denot). x.marks.entries) c.end_row.ensures.state in
     let e-laid = ap (λ (x : State g.row.E.Denot). x.laid.entries) c.end_row.ensures.state in
-    let L = lay_ledger q s.stage col s.row.first (held_of p s m) lt b s'.row.column s'.row.first (held_of p s' c.end_row.new.self.memory) (c.end_row.ensures.held p ∙ ap laid_down (c.finish.ensures.held p)) in
+    let L = lay_ledger q s.stage col s.row.first (held_of p s m) lt b s'.row.column s'.row.first (held_of p s' c.end_row.new.self.memory) (c.end_row.ensures.acts.held p ∙ ap laid_down (c.finish.ensures.acts.held p)) in
     λ wide sound. lay_sound g.E.Extent.count g.E.Extent.num wide q s m sound b lt c.finish.new.self.state.row.width c.finish.ensures.width c.finish.ensures.still
     (record { lines = s'.lines; laid = s'.laid; marks = s'.marks; stage = Closed; row = s'.row }) c.end_row.new.self.memory (c.finish.new.self.state.marks.items - s.row.begin)
-    refl (omega arith) fit.since_entries (omega arith) (c.end_row.ensures.entries ∙ c.finish.ensures.entries) L
+    refl (omega arith) fit.since_entries (omega arith) (c.end_row.ensures.acts.entries ∙ c.finish.ensures.acts.entries) L

@@ -38,7 +38,7 @@ returns g c = record {
             (c.settle_laid.ensures.settled (ap is_ok ok) k kc
             (record {
               entries = subst (λ (i : ℕ). AllByRecursion (λ e. Within 1073741823 e.width) (on_side X.num k (map span_of (take i es)))) (sym whole)
-                  (tame_entries X.num k 1073741823 (take le es) (all_laid (λ (r : EntryRecord g.row.E.Denot). Within 1073741823 (X.num r.width k)) le es (λ t d lt. sound.sized k t d kc lt)));
+                  (tame_entries X.num k 1073741823 (take le es) (all_laid (λ (r : EntryRecord g.row.E.Denot). Within 1073741823 (X.num r.entry.width k)) le es (λ t d lt. sound.sized k t d kc lt)));
               starting = gaps 0;
               gaps = λ j. gaps (j + 1);
             }))),

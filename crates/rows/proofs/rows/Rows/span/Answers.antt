@@ -33,7 +33,7 @@ returns-clause-ledger g c =
     let a = c.add_v.ensures in
     let s'' : State g.row.E.Denot = record { lines = s'.lines; laid = s'.laid; marks = s'.marks; stage = Fresh; row = record { column = col + 1; first = s'.row.first; begin = s'.row.begin; width = s'.row.width } } in
     let L : ledger_of q s'' m' ≡ on_open (carries (templates_of q) (ledger_of q s m)) (ledger_of q s m) (ledger_of q s m).hand =
-    ap (λ (x : ℕ). ledger_by Fresh (col + 1) x (held_of p s' m')) a.same.4 ∙ carry-ledger q s.stage col s.row.first (held_of p s m) lt b (held_of p s' m') (a.held p) in
+    ap (λ (x : ℕ). ledger_by Fresh (col + 1) x (held_of p s' m')) a.same.4 ∙ carry-ledger q s.stage col s.row.first (held_of p s m) lt b (held_of p s' m') (a.acts.held p) in
     L
 
 pub returns-clause-sound : goal.returns-clause-sound
@@ -53,7 +53,7 @@ returns-clause-sound g c =
     let a = c.add_v.ensures in
     let s'' : State g.row.E.Denot = record { lines = s'.lines; laid = s'.laid; marks = s'.marks; stage = Fresh; row = record { column = col + 1; first = s'.row.first; begin = s'.row.begin; width = s'.row.width } } in
     let L : ledger_of q s'' m' ≡ on_open (carries (templates_of q) (ledger_of q s m)) (ledger_of q s m) (ledger_of q s m).hand =
-    ap (λ (x : ℕ). ledger_by Fresh (col + 1) x (held_of p s' m')) a.same.4 ∙ carry-ledger q s.stage col s.row.first (held_of p s m) lt b (held_of p s' m') (a.held p) in
+    ap (λ (x : ℕ). ledger_by Fresh (col + 1) x (held_of p s' m')) a.same.4 ∙ carry-ledger q s.stage col s.row.first (held_of p s m) lt b (held_of p s' m') (a.acts.held p) in
     let i2 = ap (λ (x : Marks). x.entries) a.marks in
     λ wide sound.
     let X = g.E.Extent in
@@ -66,8 +66,8 @@ returns-clause-sound g c =
     let owes : (k : ℕ) → natural wide (owed_of P (ledger_of q s'' m').hand) k ≡ pos 0 =
     λ k. ap (λ (x : Ledger). natural wide (owed_of P x.hand) k) L ∙ ap (λ (x : List Item). natural wide x k) (carry-owed P col s.row.first h s.stage b) ∙ natural-none wide k in
     same-sound X.count X.num wide q s s'' m m' sound
-    (ap (λ (x : Marks). x.entries) a.same.1) (ap (take s.laid.entries) a.entries) (ap (λ (x : Held). flat_map entries_in x.lines) (a.held p))
-    o i2 a.entries (ap (λ (x : Ledger). done_of x.hand) L ∙ carry-done P col s.row.first h s.stage)
+    (ap (λ (x : Marks). x.entries) a.same.1) (ap (take s.laid.entries) a.acts.entries) (ap (λ (x : Held). flat_map entries_in x.lines) (a.acts.held p))
+    o i2 a.acts.entries (ap (λ (x : Ledger). done_of x.hand) L ∙ carry-done P col s.row.first h s.stage)
     (λ k kc. wide_is k kc ∙ sym (items k))
     (λ k kc. let z = sound.near o k kc in let y1 = items k in let y2 = owes k in (omega (arith, ints), omega (arith, ints)))
     (let bg = sound.begins o in let f1 = a.same.4 in omega arith)

@@ -24,7 +24,7 @@ returns-clause-ledger g c =
     let o = begun-one s.stage b in
     let lt : col < length (columns_in q.columns.now) = omega arith in
     let s' = c.finish.new.self.state in
-    tab_ledger q s.stage col s.row.first (held_of p s m) lt b (held_of p s' c.finish.new.self.memory) (c.finish.ensures.held p)
+    tab_ledger q s.stage col s.row.first (held_of p s m) lt b (held_of p s' c.finish.new.self.memory) (c.finish.ensures.acts.held p)
 
 pub returns-clause-sound : goal.returns-clause-sound
 returns-clause-sound g c =
@@ -42,9 +42,9 @@ returns-clause-sound g c =
     let f = c.finish.ensures.numbers in
     let s' = c.finish.new.self.state in
     let m' = c.finish.new.self.memory in
-    let L = tab_ledger q s.stage col s.row.first (held_of p s m) lt b (held_of p s' m') (c.finish.ensures.held p) in
+    let L = tab_ledger q s.stage col s.row.first (held_of p s m) lt b (held_of p s' m') (c.finish.ensures.acts.held p) in
     let X = g.E.Extent in
     λ wide sound.
     tab_sound X.count X.num wide q s (record { lines = s'.lines; laid = s'.laid; marks = s'.marks; stage = Fresh; row = record { column = col + 1; first = col + 1; begin = s'.marks.items; width = c.zero.result } }) m m' sound b
     s'.row.width (s'.marks.items - s.row.begin) (entry-width X.count X.num wide q s m sound b lt s'.row.width c.finish.ensures.width c.finish.ensures.still)
-    (ap (λ (x : Marks). x.entries) f.laid) f.entries fit.since_entries (omega arith) c.finish.ensures.entries L (ap (λ (x : Held). flat_map entries_in x.lines) (c.finish.ensures.held p)) c.zero.ensures lt (omega arith)
+    (ap (λ (x : Marks). x.entries) f.laid) f.entries fit.since_entries (omega arith) c.finish.ensures.acts.entries L (ap (λ (x : Held). flat_map entries_in x.lines) (c.finish.ensures.acts.held p)) c.zero.ensures lt (omega arith)
