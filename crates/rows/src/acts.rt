@@ -1,4 +1,4 @@
-ghost use Rattle.std.specs.Prelude.{◌≡◌, ℕ, ◌+◌, ◌-◌, ◌*◌, ◌<◌, ◌≤◌, List, [], ◌∷◌, ◌++◌, length, set};
+ghost use Rattle.std.specs.Prelude.{◌≡◌, ◌+◌, ◌-◌, ◌<◌, ◌≤◌, [], ◌∷◌, length, set};
 ghost use Rattle.ledger.specs.Chunks.{total};
 ghost use Rattle.rows.specs.Good.{Acts, moved, moved_on, ended, based, lined, back};
 ghost use Rattle.rows.specs.Held.{over, Fit, pushed, closed, laid_down, emptied, ruled, bare_line};

@@ -1,5 +1,5 @@
 //! The row calls, without the items that are put.
-ghost use Rattle.std.specs.Prelude.{◌≡◌, ℕ, ◌≤◌, [], ℤ, Ok};
+ghost use Rattle.std.specs.Prelude.{◌≡◌, ℕ, ◌≤◌, ℤ, Ok};
 ghost use Rattle.ledger.specs.Ledger.{Item};
 ghost use Rattle.ledger.specs.Naturals.{start_verdict};
 ghost use Rattle.ledger.specs.Calls.{take_verdict, omit_verdict, lay_verdict, tab_verdict, span_verdict, next_verdict, rule_verdict, opened, omits, on_open, lays, tabs, carries, gives_up, ruled_by, starts};

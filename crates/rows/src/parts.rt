@@ -1,5 +1,5 @@
 //! The parts of templates that a row takes over, and the end of its entries.
-ghost use Rattle.std.specs.Prelude.{◌≡◌, ℕ, ◌+◌, ◌-◌, ◌<◌, ◌≤◌, true, List, [], length, take, drop, ◌+ℤ◌, ◌≢◌, slice_index_or, slice_set};
+ghost use Rattle.std.specs.Prelude.{◌≡◌, ℕ, ◌-◌, ◌<◌, true, [], length, ◌+ℤ◌, ◌≢◌, slice_index_or, slice_set};
 ghost use Rattle.extent.specs.Sizes.{Near};
 ghost use Rattle.ledger.specs.declared.records.Owed.{Owed};
 ghost use Rattle.ledger.specs.Items.{decoded_items};

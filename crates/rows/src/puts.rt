@@ -1,5 +1,5 @@
 //! Items that are put into a begun cell.
-ghost use Rattle.std.specs.Prelude.{◌≡◌, ℕ, ◌<◌, ◌≤◌, true, length, ℤ, pos, ◌≢◌, slice_index_or};
+ghost use Rattle.std.specs.Prelude.{◌≡◌, ℕ, ◌<◌, ◌≤◌, true, length, ℤ, pos, ◌≢◌};
 ghost use Rattle.extent.specs.Sizes.{Within};
 ghost use Rattle.ledger.specs.Ledger.{Item};
 ghost use Rattle.ledger.specs.Naturals.{add_verdict};

@@ -113,10 +113,6 @@ pub room-made : (R : Result Preamble Fault) (made : Result ℕ Fault) (i e n t :
 room-made (Ok p) made i e n t h = ap (λ (x : Result ℕ Fault). record { items = i; entries = e; lines = min 1024 (lines_kept x n); text = t }) h
 room-made (Err f) made i e n t h = ap (λ (x : Result ℕ Fault). record { items = i; entries = e; lines = min 1024 (lines_kept x n); text = t }) h
 
-pub lines-upto : (made : Result ℕ Fault) (n k : ℕ) → k ≡ lines_kept made n → k ≤ n
-lines-upto (Ok b) n k h = omega arith
-lines-upto (Err f) n k h = omega arith
-
 -- what make says of the bytes is refused as the preamble is
 pub fault-made : (R : Result Preamble Fault) (made : Result ℕ Fault) → made ≡ bytes_read R → fault_in made ≡ fault_in R
 fault-made (Ok p) made h = ap fault_in h

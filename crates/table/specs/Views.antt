@@ -8,7 +8,7 @@ use Rattle.ledger.specs.declared.records.Room.{Room}
 use Rattle.ledger.specs.declared.records.ColumnRecord.{ColumnRecord}
 use Rattle.ledger.specs.Ledger.{Item, Ledger}
 use Rattle.ledger.specs.Calls.{Template, laid_entries}
-use Rattle.ledger.specs.Naturals.{wide_by, natural_by}
+use Rattle.ledger.specs.Naturals.{wide_of, natural_by}
 use Rattle.rows.specs.declared.preamble.Preamble.{Preamble}
 use Rattle.rows.specs.Columns.{columns_in as templates_on}
 use Rattle.rows.specs.Views.{templates_at, room_at, ledger_at}
@@ -57,7 +57,7 @@ pub record Kept {X E : Type 0} {m : Meaning X E} {s : Sides E} (t t' : Table X E
 
 -- an item's width on a side, by the meaning of the table's measurer
 abbrev pub wide_in : {X E : Type 0} {m : Meaning X E} {s : Sides E} → Table X E m s → Item → ℕ → ℤ
-wide_in {m = m} {s = s} t = wide_by s.num s.entered (m.meaning t.measurer.now) (m.blank t.measurer.now)
+wide_in {m = m} {s = s} t = wide_of m s t.measurer.now
 
 -- the widths that a table keeps are natural widths by that meaning: so it is of every table
 abbrev pub ByMeaning : {X E : Type 0} {m : Meaning X E} {s : Sides E} → Table X E m s → Type 0

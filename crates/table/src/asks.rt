@@ -1,14 +1,11 @@
-ghost use Rattle.std.specs.Prelude.{◌≡◌, ℕ, ◌+◌, ◌<◌, ◌≤◌, not, map, length, take, ℤ, pos, slice_index_or};
+ghost use Rattle.std.specs.Prelude.{◌≡◌, ℕ, ◌+◌, ◌<◌, ◌≤◌, not, length, take, pos, slice_index_or};
 ghost use Rattle.extent.specs.Sizes.{Within};
 ghost use Rattle.widths.specs.Merging.{width, seen};
 ghost use Rattle.widths.specs.Entries.{widest};
 ghost use Rattle.widths.specs.Settling.{Settled};
 ghost use Rattle.spans.specs.Tables.{starting, after};
-ghost use Rattle.ledger.specs.Calls.{laid_entries, when};
-ghost use Rattle.ledger.specs.Naturals.{natural_by, fault_in};
-ghost use Rattle.ledger.specs.Ledger.{Item};
-ghost use Rattle.rows.specs.Columns.{columns_in as templates_on};
-ghost use Rattle.rows.specs.Views.{ledger_at, SoundAt};
+ghost use Rattle.ledger.specs.Calls.{when};
+ghost use Rattle.ledger.specs.Naturals.{fault_in};
 ghost use Rattle.table.specs.Promises.{has_column, no_column, ask_on, answer_on};
 ghost use Rattle.table.specs.Views.{columns_in, lengths_of, lengths_in, laid_in};
 
@@ -18,7 +15,6 @@ use extent::Extent;
 use faults::{Cause, Fault};
 use measure::Measurer;
 use rows::preamble::Preamble;
-use rows::rows::Rows;
 
 // The natural lengths of the starting gap and of the gaps after the columns.
 fn naturals<E: Copy>(preamble: &Preamble<E>, lengths: &mut [i64])
@@ -39,41 +35,39 @@ fn has(columns: usize, column: usize) -> bool
     (1..=columns).contains(&column)
 }
 
-// The width of one column, over all entries laid.
-fn width_at<E: Extent>(
-    rows: &Rows<E>,
-    gaps: &[i64],
-    cells: &mut [Option<E>],
-    widths: &mut [Option<E>],
-    index: usize,
-) -> Option<E>
-    requires few { length (templates_on rows.now.preamble.columns.now) ≤ 32 }
-    requires room { (1024 ≤ length cells.old) × ((32 ≤ length widths.old) × (length (templates_on rows.now.preamble.columns.now) < length gaps.now)) }
-    requires index { index < length (templates_on rows.now.preamble.columns.now) }
-    ensures merged { (wide : Item → ℕ → ℤ) → SoundAt E.count E.num wide rows.now → ((j : ℕ) → Within 16777215 (slice_index_or gaps.now j (pos 0)))
-        → (k : ℕ) → k < E.count → seen E.num k result ≡ width (widest (map (natural_by wide k) (laid_entries (ledger_at rows.now)))) (after E.entered k gaps.now) index }
-{
-    // it is refused nothing: the memory has room, and all entries lie in the columns
-    let _ = rows.settle(gaps, cells, widths);
-    widths[index]
-}
-
-// The same, with the gaps' natural lengths, in lent memory.
-fn width_in<E: Extent>(rows: &Rows<E>, work: &mut Workspace<E>, index: usize) -> Option<E>
-    requires few { length (templates_on rows.now.preamble.columns.now) ≤ 32 }
-    requires index { index < length (templates_on rows.now.preamble.columns.now) }
-    ensures { (wide : Item → ℕ → ℤ) → SoundAt E.count E.num wide rows.now
-        → (k : ℕ) → k < E.count → seen E.num k result ≡ width (widest (map (natural_by wide k) (laid_entries (ledger_at rows.now)))) (after E.entered k (lengths_of rows.now.preamble)) index }
-{
-    let lengths = &mut work.lengths;
-    naturals(&rows.preamble, lengths);
-    let used = &lengths[0..rows.preamble.count() + 1];
-    let cells = &mut work.cells;
-    let widths = &mut work.widths;
-    width_at(rows, used, cells, widths, index)
-}
-
 impl<'a, 'p, 'm, M: Measurer> Table<'a, 'p, 'm, M> {
+    // The width of one column, over all entries laid.
+    fn width_at(
+        &self,
+        gaps: &[i64],
+        cells: &mut [Option<M::Extent>],
+        widths: &mut [Option<M::Extent>],
+        index: usize,
+    ) -> Option<M::Extent>
+        requires room { (1024 ≤ length cells.old) × ((32 ≤ length widths.old) × (columns_in self.now < length gaps.now)) }
+        requires index { index < columns_in self.now }
+        ensures merged { ((j : ℕ) → Within 16777215 (slice_index_or gaps.now j (pos 0)))
+            → (k : ℕ) → k < M.Extent.Extent.count → seen M.Extent.Extent.num k result ≡ width (widest (laid_in self.now k)) (after M.Extent.Extent.entered k gaps.now) index }
+    {
+        // it is refused nothing: the memory has room, and all entries lie in the columns
+        let _ = self.rows.settle(gaps, cells, widths);
+        widths[index]
+    }
+
+    // The same, with the gaps' natural lengths, in lent memory.
+    fn width_in(&self, work: &mut Workspace<M::Extent>, index: usize) -> Option<M::Extent>
+        requires index { index < columns_in self.now }
+        ensures { (k : ℕ) → k < M.Extent.Extent.count → seen M.Extent.Extent.num k result ≡ width (widest (laid_in self.now k)) (after M.Extent.Extent.entered k (lengths_in self.now)) index }
+    {
+        let preamble = &self.rows.preamble;
+        let lengths = &mut work.lengths;
+        naturals(preamble, lengths);
+        let used = &lengths[0..preamble.count() + 1];
+        let cells = &mut work.cells;
+        let widths = &mut work.widths;
+        self.width_at(used, cells, widths, index)
+    }
+
     /// The width of a column, counted from 1, or nothing for a void one.
     pub fn ask(
         &self,
@@ -87,6 +81,6 @@ impl<'a, 'p, 'm, M: Measurer> Table<'a, 'p, 'm, M> {
         if !has(self.rows.preamble.count(), column) {
             return Err(Cause::NoSuchColumn.at(0));
         }
-        Ok(width_in(&self.rows, work, column - 1))
+        Ok(self.width_in(work, column - 1))
     }
 }

@@ -1,6 +1,6 @@
-ghost use Rattle.std.specs.Prelude.{◌≡◌, ℕ, ◌<◌, [], ◌∷◌, length, take, pos, IfOk};
+ghost use Rattle.std.specs.Prelude.{◌≡◌, ℕ, ◌<◌, ◌≤◌, [], ◌∷◌, length, take, pos, IfOk};
 ghost use Rattle.lengths.specs.Gaps.{parts_of};
-ghost use Rattle.ledger.specs.Naturals.{wide_by, fault_in};
+ghost use Rattle.ledger.specs.Naturals.{wide_of, fault_in};
 ghost use Rattle.rows.specs.Good.{room_in, new_ledger};
 ghost use Rattle.ledger.specs.declared.records.Owed.{Owed};
 ghost use Rattle.templates.specs.Readings.{read_in, empty_with};
@@ -20,7 +20,7 @@ use templates::memory::{Read, Templates, empty_column};
 use templates::read::read_preamble;
 
 /// The starting gap as a host gives it, in numbers: what is out of its range is refused by `make`.
-#[derive(Clone, Copy)]
+#[derive(Clone, Copy, PartialEq, Eq, Debug)]
 pub struct Start {
     pub natural: i64,
     pub stretch: i64,
@@ -63,7 +63,8 @@ fn blank<E: Extent>(templates: &mut Templates<E>) -> Read
 
 // How many lines there is room for: none where the preamble is refused.
 fn lines_kept(made: Result<usize, Fault>, lines: usize) -> usize
-    ensures { result ≡ lines_kept made lines }
+    ensures is { result ≡ lines_kept made lines }
+    ensures within { result ≤ lines }
 {
     made.map_or(0, |_| lines)
 }
@@ -77,7 +78,7 @@ fn read_at<M: Measurer>(
 ) -> Result<Read, Fault>
     ensures answer { read_in text.now templates.new result ≡ (read_from text.now (M.Measurer.meaning measurer.now) (start_of start)) }
     ensures kept { KeptFrom text.now (start_of start) templates.new result }
-    ensures widths { WidthsIn M.Extent.Extent.count M.Extent.Extent.num (wide_by M.Extent.Extent.num M.Extent.Extent.entered (M.Measurer.meaning measurer.now) (M.Measurer.blank measurer.now)) text.now templates.new result }
+    ensures widths { WidthsIn M.Extent.Extent.count M.Extent.Extent.num (wide_of M.Measurer M.Extent.Extent measurer.now) text.now templates.new result }
 {
     let gap = Gap::new(start.natural, start.stretch, start.order).ok_or(Cause::OutOfRange.at(0))?;
     read_preamble(measurer, gap, text, templates)
@@ -98,7 +99,7 @@ fn prepare<M: Measurer>(
 ) -> Prepared
     ensures made { result.made ≡ bytes_read (read_from text.now (M.Measurer.meaning measurer.now) (start_of start)) }
     ensures shaped { Shaped text.now templates.new result.read (templates_made (read_from text.now (M.Measurer.meaning measurer.now) (start_of start))) (gaps_made (start_of start) (read_from text.now (M.Measurer.meaning measurer.now) (start_of start))) }
-    ensures widths { Widths M.Extent.Extent.count M.Extent.Extent.num (wide_by M.Extent.Extent.num M.Extent.Extent.entered (M.Measurer.meaning measurer.now) (M.Measurer.blank measurer.now)) text.now templates.new result.read }
+    ensures widths { Widths M.Extent.Extent.count M.Extent.Extent.num (wide_of M.Measurer M.Extent.Extent measurer.now) text.now templates.new result.read }
     ensures text { take result.read.bytes text.now ≡ text_made text.now (read_from text.now (M.Measurer.meaning measurer.now) (start_of start)) }
 {
     match read_at(measurer, start, text, templates) {

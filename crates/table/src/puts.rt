@@ -1,7 +1,7 @@
-ghost use Rattle.std.specs.Prelude.{◌≡◌, ◌≤◌, true, length};
+ghost use Rattle.std.specs.Prelude.{◌≡◌, true};
 ghost use Rattle.lengths.specs.Gaps.{natural_fits};
 ghost use Rattle.ledger.specs.Ledger.{cell_word, space, kern, hfil};
-ghost use Rattle.ledger.specs.Items.{taken, meant};
+ghost use Rattle.ledger.specs.Items.{meant};
 ghost use Rattle.ledger.specs.Calls.{on_open, puts};
 ghost use Rattle.ledger.specs.Naturals.{add_verdict, put_verdict};
 ghost use Rattle.rows.specs.Good.{begun_in};
@@ -15,6 +15,7 @@ use extent::Extent;
 use faults::{Cause, Fault};
 use ledger::records::ItemRecord;
 use measure::{Measurer, measured};
+use rows::puts::Put;
 use rows::state::Cell;
 
 // A kern is within ±16,777,215.
@@ -26,16 +27,14 @@ fn kern_fits(sp: i64) -> bool
 
 impl<'a, 'p, 'm, M: Measurer> Table<'a, 'p, 'm, M> {
     // Adds a measured item to the begun cell.
-    fn add(&mut self, item: ItemRecord, width: M::Extent, word: &[u8]) -> Result<(), Fault>
+    fn add(&mut self, put: Put<M::Extent>) -> Result<(), Fault>
         requires begun { begun_in self.old.rows.draft.state.stage ≡ true }
-        requires bytes { taken item ≡ length word.now }
-        requires few { length word.now ≤ 255 }
-        requires fits { Fitting M.Extent.Extent.count M.Extent.Extent.num (wide_in self.old) width (meant self.old.rows.preamble.text.now item word.now) }
-        ensures answer { result ≡ unless (add_verdict M.Extent.Extent.count (wide_in self.old) (templates_in self.old) (room_of self.old) (ledger_in self.old) (meant self.old.rows.preamble.text.now item word.now)) tt }
-        ensures ledger { ledger_in self.new ≡ followed result (ledger_in self.old) (on_open (puts (meant self.old.rows.preamble.text.now item word.now) (ledger_in self.old)) (ledger_in self.old) (ledger_in self.old).hand) }
+        requires fits { Fitting M.Extent.Extent.count M.Extent.Extent.num (wide_in self.old) put.width (meant self.old.rows.preamble.text.now put.item put.word.now) }
+        ensures answer { result ≡ unless (add_verdict M.Extent.Extent.count (wide_in self.old) (templates_in self.old) (room_of self.old) (ledger_in self.old) (meant self.old.rows.preamble.text.now put.entry.item put.entry.word.now)) tt }
+        ensures ledger { ledger_in self.new ≡ followed result (ledger_in self.old) (on_open (puts (meant self.old.rows.preamble.text.now put.entry.item put.entry.word.now) (ledger_in self.old)) (ledger_in self.old) (ledger_in self.old).hand) }
         ensures kept { Kept self.old self.new }
     {
-        self.rows.add(item, width, word)
+        self.rows.add(put)
     }
 
     /// Puts a word into the cell.
@@ -46,7 +45,11 @@ impl<'a, 'p, 'm, M: Measurer> Table<'a, 'p, 'm, M> {
     {
         self.rows.draft.state.check_cell(Cell::Begun(cell.column))?;
         let metrics = measured(self.measurer, word)?;
-        self.add(ItemRecord::CellWord(word.len()), metrics.width, word)
+        self.add(Put {
+            item: ItemRecord::CellWord(word.len()),
+            width: metrics.width,
+            word,
+        })
     }
 
     /// Puts a space into the cell.
@@ -57,7 +60,11 @@ impl<'a, 'p, 'm, M: Measurer> Table<'a, 'p, 'm, M> {
     {
         self.rows.draft.state.check_cell(Cell::Begun(cell.column))?;
         let width = self.measurer.space();
-        self.add(ItemRecord::Space, width, b"")
+        self.add(Put {
+            item: ItemRecord::Space,
+            width,
+            word: b"",
+        })
     }
 
     /// Puts a kern into the cell.
@@ -71,7 +78,11 @@ impl<'a, 'p, 'm, M: Measurer> Table<'a, 'p, 'm, M> {
             return Err(Cause::OutOfRange.at(0));
         }
         let width = M::Extent::enter(sp);
-        self.add(ItemRecord::Kern(sp), width, b"")
+        self.add(Put {
+            item: ItemRecord::Kern(sp),
+            width,
+            word: b"",
+        })
     }
 
     /// Puts a fill into the cell.
@@ -82,6 +93,10 @@ impl<'a, 'p, 'm, M: Measurer> Table<'a, 'p, 'm, M> {
     {
         self.rows.draft.state.check_cell(Cell::Begun(cell.column))?;
         let width = M::Extent::zero();
-        self.add(ItemRecord::Hfil, width, b"")
+        self.add(Put {
+            item: ItemRecord::Hfil,
+            width,
+            word: b"",
+        })
     }
 }

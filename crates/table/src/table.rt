@@ -1,5 +1,5 @@
 ghost use Rattle.std.specs.Prelude.{◌≤◌, length};
-ghost use Rattle.ledger.specs.Naturals.{wide_by};
+ghost use Rattle.ledger.specs.Naturals.{wide_of};
 ghost use Rattle.rows.specs.Columns.{columns_in as templates_on};
 ghost use Rattle.rows.specs.Sound.{Sound};
 
@@ -16,5 +16,5 @@ pub struct Table<'a, 'p, 'm, M: Measurer> {
     pub(crate) measurer: &'m M,
     pub(crate) made: Result<usize, Fault>,
     pub ghost few: { length (templates_on rows.preamble.columns.now) ≤ 32 },
-    pub ghost meant: { Sound M.Extent.Extent.count M.Extent.Extent.num (wide_by M.Extent.Extent.num M.Extent.Extent.entered (M.Measurer.meaning measurer.now) (M.Measurer.blank measurer.now)) rows.preamble rows.draft.state rows.draft.memory },
+    pub ghost meant: { Sound M.Extent.Extent.count M.Extent.Extent.num (wide_of M.Measurer M.Extent.Extent measurer.now) rows.preamble rows.draft.state rows.draft.memory },
 }

@@ -1,7 +1,7 @@
 use Rattle.std.proofs.Common.{◌≡◌, ℕ, [], take, ℤ, Result, sym, refl, ap, ◌∙◌, subst}
 use Rattle.faults.specs.declared.Fault.{Fault}
 use Rattle.ledger.specs.Ledger.{Item}
-use Rattle.ledger.specs.Naturals.{wide_by}
+use Rattle.ledger.specs.Naturals.{wide_of}
 use Rattle.ledger.specs.Preambles.{Preamble}
 use Rattle.templates.specs.declared.memory.Read.{Read}
 use Rattle.templates.specs.Kept.{Widths}
@@ -34,7 +34,7 @@ returns-in-Err g c =
     let s = start_of c.args.start in
     let b = c.blank.ensures in
     let X = g.M.Extent.Extent in
-    let wide : Item → ℕ → ℤ = wide_by X.num X.entered (g.M.Measurer.meaning c.args.measurer.now) (g.M.Measurer.blank c.args.measurer.now) in
+    let wide : Item → ℕ → ℤ = wide_of g.M.Measurer g.M.Extent.Extent c.args.measurer.now in
     let is = sym b.answer in
     record {
       made = ap bytes_read e;

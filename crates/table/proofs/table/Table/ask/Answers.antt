@@ -20,7 +20,7 @@ returns-clause-answer g c =
     let t = c.args.self.now in
     let X = g.M.Extent.Extent in
     let here : has_column (columns_in t) c.args.column ≡ true = search rules in
-    λ k kc. asked-some (laid_in t k) (after X.entered k (lengths_in t)) (columns_in t) c.args.column (seen X.num k c.width_in.result) here (c.width_in.ensures (wide_in t) t.meant k kc)
+    λ k kc. asked-some (laid_in t k) (after X.entered k (lengths_in t)) (columns_in t) c.args.column (seen X.num k c.width_in.result) here (c.width_in.ensures k kc)
 
 pub returns-clause-settled : goal.returns-clause-settled
 returns-clause-settled g c =

@@ -1,13 +1,13 @@
-use Rattle.std.proofs.Common.{◌≡◌, ℕ, ◌-◌, ◌≤◌, min, length, take, ap, ◌∙◌, arith}
+use Rattle.std.proofs.Common.{◌≡◌, ℕ, ◌-◌, min, length, take, ap, ◌∙◌, arith}
 use Rattle.std.proofs.lemmas.List.{length-map, length-take-le}
 use Rattle.ledger.specs.declared.records.ColumnRecord.{ColumnRecord}
-use Rattle.ledger.specs.Naturals.{wide_by}
+use Rattle.ledger.specs.Naturals.{wide_of}
 use Rattle.rows.specs.declared.state.State.{State}
 use Rattle.rows.specs.declared.preamble.Preamble.{Preamble}
 use Rattle.rows.specs.Good.{room_in, ledger_of}
 use Rattle.rows.proofs.News.{new-ledger}
 use Rattle.table.specs.Making.{start_of, read_from, lines_kept}
-use Rattle.table.proofs.Shapes.{templates-are, starts-sound, room-made, lines-upto}
+use Rattle.table.proofs.Shapes.{templates-are, starts-sound, room-made}
 use Rattle.table.proofs.table.Table.make.Goals as goal
 
 pub invariant_of-result : goal.invariant_of-result
@@ -17,7 +17,7 @@ invariant_of-result g c =
     let n = c.new.ensures in
     let r = c.new.result in
     let X = g.M.Extent.Extent in
-    let wide = wide_by X.num X.entered (g.M.Measurer.meaning c.args.measurer.now) (g.M.Measurer.blank c.args.measurer.now) in
+    let wide = wide_of g.M.Measurer g.M.Extent.Extent c.args.measurer.now in
     let P = λ (x : Preamble g.row.M-Extent.Denot). x in
     let few = pe.shaped.lying.few in
     let columns = ap (λ (x : Preamble g.row.M-Extent.Denot). length x.columns.now) n.preamble ∙ v.sizes.0 in
@@ -53,8 +53,7 @@ returns-clause-room g c =
     let a = c.args.memory in
     let R = read_from c.args.text.now (g.M.Measurer.meaning c.args.measurer.now) (start_of c.args.start) in
     let k = c.lines_kept-kept.result in
-    let upto : k ≤ length a.lines.now = lines-upto p.made (length a.lines.now) k c.lines_kept-kept.ensures in
-    let len : length (take (k - 0) a.lines.now) ≡ lines_kept p.made (length a.lines.now) = let z : k - 0 ≡ k = omega arith in ap (λ (i : ℕ). length (take i a.lines.now)) z ∙ length-take-le k a.lines.now upto ∙ c.lines_kept-kept.ensures in
+    let len : length (take (k - 0) a.lines.now) ≡ lines_kept p.made (length a.lines.now) = let z : k - 0 ≡ k = omega arith in ap (λ (i : ℕ). length (take i a.lines.now)) z ∙ length-take-le k a.lines.now c.lines_kept-kept.ensures.within ∙ c.lines_kept-kept.ensures.is in
     ap room_in c.new.ensures.memory
     ∙ ap (λ (n : ℕ). record { items = min 16384 (length a.items.now); entries = min 8192 (length a.entries.now); lines = min 1024 n; text = min 65535 (length a.text.now) }) len
     ∙ room-made R p.made (min 16384 (length a.items.now)) (min 8192 (length a.entries.now)) (length a.lines.now) (min 65535 (length a.text.now)) c.prepare-made.ensures.made
