@@ -65,12 +65,13 @@ impl<'a, 'p, E: Extent> Rows<'a, 'p, E> {
         let state = self.draft.state;
         state.check_cell(Cell::Fresh(column))?;
         let row = state.row;
-        let widths = self.column(row.column).widths;
+        let here = self.column(row.column);
+        let widths = here.widths;
         let sum = row.width.sum(widths.u);
         if outside(sum.sum(widths.v)) {
             return Err(Cause::EntryTooWide.at(0));
         }
-        let template = self.column(row.column).template;
+        let template = here.template;
         let end = template.from + template.u;
         self.draft
             .add_part(&self.preamble.pieces[template.from..end]);

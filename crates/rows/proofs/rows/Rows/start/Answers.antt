@@ -37,12 +37,12 @@ returns-then-outside-clause-answer g c =
     let n1 = ap one (fresh-is s.stage y) in
     let lt : col < length (columns_in q.columns.now) = omega arith in
     let X = g.E.Extent in
-    λ wide sound. refused _ entry_wide _ tt c.at.ensures (start-verdict X.count wide (templates_of q) (ledger_of q s m) col d (X.num c.sum.result) true same at (start_is X.count X.num wide q s m sound y lt c.column-widths.result.widths c.column-widths.ensures.widths c.sum-sum.result c.sum.result c.sum-sum.ensures c.sum.ensures) c.if-outside.ensures)
+    λ wide sound. refused _ entry_wide _ tt c.at.ensures (start-verdict X.count wide (templates_of q) (ledger_of q s m) col d (X.num c.sum.result) true same at (start_is X.count X.num wide q s m sound y lt c.column-here.result.widths c.column-here.ensures.widths c.sum-sum.result c.sum.result c.sum-sum.ensures c.sum.ensures) c.if-outside.ensures)
 
 pub add_part-requires-clause-bytes : goal.add_part-requires-clause-bytes
 add_part-requires-clause-bytes g c =
     let q = c.args.self.now.preamble in
-    let r = c.column.result.template in
+    let r = c.column-here.result.template in
     zero-part taken q.pieces.now r.from ((r.from + r.u) - r.from) q.bare
 
 pub returns : goal.returns
@@ -69,17 +69,17 @@ returns g c =
     let e-first = ap (λ (x : State g.row.E.Denot). x.row.first) c.add_part.ensures.state in
     let e-laid = ap (λ (x : State g.row.E.Denot). x.laid.entries) c.add_part.ensures.state in
     let s'' : State g.row.E.Denot = record { lines = s'.lines; laid = s'.laid; marks = s'.marks; stage = Begun; row = record { column = s'.row.column; first = s'.row.first; begin = s'.row.begin; width = c.sum-sum.result } } in
-    let r = c.column.result.template in
-    let held = a.acts.held p ∙ ap (λ (x : List ItemRecord). pushed (held_of p s m) (decoded_items p x [])) (piece-is q.pieces.now r.from r.u) ∙ ap (λ (x : Column). pushed (held_of p s m) (decoded_items p (u_pieces q x) [])) c.column.ensures.template in
+    let r = c.column-here.result.template in
+    let held = a.acts.held p ∙ ap (λ (x : List ItemRecord). pushed (held_of p s m) (decoded_items p x [])) (piece-is q.pieces.now r.from r.u) ∙ ap (λ (x : Column). pushed (held_of p s m) (decoded_items p (u_pieces q x) [])) c.column-here.ensures.template in
     let L = same-ledger Begun Begun s'.row.column col s'.row.first s.row.first (held_of p s' m') refl e-column e-first ∙ start-ledger q s.stage col s.row.first (held_of p s m) (held_of p s' m') y lt held in
     record {
-      answer = λ wide sound. accepted _ tt (start-verdict X.count wide (templates_of q) (ledger_of q s m) col d (X.num c.sum.result) false same at (start_is X.count X.num wide q s m sound y lt c.column-widths.result.widths c.column-widths.ensures.widths c.sum-sum.result c.sum.result c.sum-sum.ensures c.sum.ensures) c.if-outside.ensures);
+      answer = λ wide sound. accepted _ tt (start-verdict X.count wide (templates_of q) (ledger_of q s m) col d (X.num c.sum.result) false same at (start_is X.count X.num wide q s m sound y lt c.column-here.result.widths c.column-here.ensures.widths c.sum-sum.result c.sum.result c.sum-sum.ensures c.sum.ensures) c.if-outside.ensures);
       ledger = L;
       sound = λ wide sound.
           let P = templates_of q in
           let h = held_of p s m in
-          let sums = start-sum X.count X.num wide q s m sound y lt c.column-widths.result.widths c.column-widths.ensures.widths c.sum-sum.result c.sum.result c.sum-sum.ensures c.sum.ensures in
-          let alls = start_is X.count X.num wide q s m sound y lt c.column-widths.result.widths c.column-widths.ensures.widths c.sum-sum.result c.sum.result c.sum-sum.ensures c.sum.ensures in
+          let sums = start-sum X.count X.num wide q s m sound y lt c.column-here.result.widths c.column-here.ensures.widths c.sum-sum.result c.sum.result c.sum-sum.ensures c.sum.ensures in
+          let alls = start_is X.count X.num wide q s m sound y lt c.column-here.result.widths c.column-here.ensures.widths c.sum-sum.result c.sum.result c.sum-sum.ensures c.sum.ensures in
           let items : (k : ℕ) → natural wide (items_now (ledger_of q s'' m').hand) k ≡ natural wide (items_now (ledger_of q s m).hand) k +ℤ natural wide (template_at P col).u k =
           λ k. ap (λ (x : Ledger). natural wide (items_now x.hand) k) L ∙ ap (λ (x : List Item). natural wide x k) (start-items P col s.row.first h s.stage y) ∙ natural-append wide (items_now (ledger_of q s m).hand) (template_at P col).u k in
           let owes : (k : ℕ) → natural wide (owed_of P (ledger_of q s'' m').hand) k ≡ natural wide (template_at P col).v k =
