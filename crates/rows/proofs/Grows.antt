@@ -1,16 +1,14 @@
 -- What more items, entries and lines make of what is held.
-use Rattle.std.proofs.Common.{◌≡◌, ℕ, ◌+◌, ◌-◌, ◌<◌, ◌≤◌, List, [], ◌∷◌, ◌++◌, length, take, drop, set, sym, ap, ◌∙◌, subst, add-zero, refl, arith}
+use Rattle.std.proofs.Common.{◌≡◌, ℕ, ◌+◌, ◌-◌, ◌<◌, ◌≤◌, List, [], ◌∷◌, ◌++◌, length, take, drop, set, sym, ap, ◌∙◌, subst, add-zero, arith}
 use Rattle.std.proofs.lemmas.List.{length-take-le, length-drop, drop-append-le, drop_all, append-nil, take-set-le, take_more_set, length-set, take-append-drop, length-take}
 use Rattle.ledger.specs.declared.records.ItemRecord.{ItemRecord}
 use Rattle.rows.specs.declared.state.EntryRecord.{EntryRecord}
 use Rattle.rows.specs.declared.state.LineRecord.{LineRecord}
 use Rattle.rows.specs.declared.state.LineRecord.TheVariants.{Row}
-use Rattle.rows.specs.declared.state.Bare.{Bare}
-use Rattle.rows.specs.declared.state.Bare.TheVariants as bare
 use Rattle.rows.specs.declared.state.Marks.{Marks}
 use Rattle.ledger.specs.Chunks.{total}
 use Rattle.ledger.specs.Ledger.{Line}
-use Rattle.rows.specs.Held.{over, part, counted, entry_of, decoded_entries, rowed, line_of, bare_record, decoded_lines, held_by, FitBy, pushed, closed, laid_down, emptied, ruled}
+use Rattle.rows.specs.Held.{over, part, counted, entry_of, decoded_entries, rowed, line_of, decoded_lines, held_by, FitBy, pushed, closed, laid_down, emptied, ruled}
 use Rattle.ledger.specs.Items.{taken, meant, decoded_items}
 use Rattle.ledger.proofs.Cuts.{total-append, chunks-append, chunks-more, chunks-grow, length-chunks, chunks-one, total-one, chunks-none, total-none}
 use Rattle.rows.proofs.Overs.{length_over, take-over_below, part-over, length_part, take_part, set_over}
@@ -296,8 +294,3 @@ module _ {E : Type 0} (p : List ℕ) (n : ℕ) (k m : Marks) (b : ℕ) (ls : Lis
           hand-items = fit.hand-items;
           hand-text = fit.hand-text;
         }
-
--- a line without entries takes none
-pub bare-none : (b : Bare) → rowed (bare_record b) ≡ 0
-bare-none bare.Rule = refl
-bare-none (bare.Gap z) = refl

@@ -4,8 +4,6 @@ use Rattle.ledger.specs.declared.records.ItemRecord.{ItemRecord}
 use Rattle.rows.specs.declared.state.EntryRecord.{EntryRecord}
 use Rattle.rows.specs.declared.state.LineRecord.{LineRecord}
 use Rattle.rows.specs.declared.state.LineRecord.TheVariants.{Row, Rule, Gap}
-use Rattle.rows.specs.declared.state.Bare.{Bare}
-use Rattle.rows.specs.declared.state.Bare.TheVariants as bare
 use Rattle.rows.specs.declared.state.Marks.{Marks}
 use Rattle.rows.specs.declared.state.Memory.{Memory}
 use Rattle.rows.specs.declared.state.State.{State}
@@ -41,14 +39,6 @@ abbrev pub line_of : LineRecord → List Entry → Line
 line_of (Row n) es = row es
 line_of Rule es = rule
 line_of (Gap z) es = gap z
-
--- lines without entries
-abbrev pub bare_record : Bare → LineRecord
-bare_record bare.Rule = Rule
-bare_record (bare.Gap z) = Gap z
-
-abbrev pub bare_line : Bare → Line
-bare_line b = line_of (bare_record b) []
 
 abbrev pub decoded_lines : List LineRecord → List Entry → List Line
 decoded_lines ls es = chunks rowed line_of ls es

@@ -1,12 +1,12 @@
 ghost use Rattle.std.specs.Prelude.{◌≡◌, ◌+◌, ◌-◌, ◌<◌, ◌≤◌, [], ◌∷◌, length, set};
 ghost use Rattle.ledger.specs.Chunks.{total};
 ghost use Rattle.rows.specs.Good.{Acts, moved, moved_on, ended, based, lined, back};
-ghost use Rattle.rows.specs.Held.{over, Fit, pushed, closed, laid_down, emptied, ruled, bare_line};
+ghost use Rattle.rows.specs.Held.{over, Fit, pushed, closed, laid_down, emptied, ruled, rowed, line_of};
 ghost use Rattle.ledger.specs.Items.{meant, taken, decoded_items};
 
 use crate::draft::Draft;
 use crate::puts::Put;
-use crate::state::{Bare, EntryRecord, LineRecord};
+use crate::state::{EntryRecord, LineRecord};
 use ledger::records::ItemRecord;
 use widths::Entry;
 
@@ -83,14 +83,15 @@ impl<'a, E: Copy> Draft<'a, E> {
     }
 
     /// A line without entries.
-    pub(crate) fn add_bare(&mut self, line: Bare)
+    pub(crate) fn add_bare(&mut self, line: LineRecord)
         requires fit { Fit self.old.state self.old.memory }
         requires lines { self.old.state.lines < length self.old.memory.lines.now }
-        ensures acts { Acts (λ p h. ruled h (bare_line line)) self.old.memory.entries.now self.old self.new }
+        requires bare { rowed line ≡ 0 }
+        ensures acts { Acts (λ p h. ruled h (line_of line [])) self.old.memory.entries.now self.old self.new }
         ensures state { self.new.state ≡ lined self.old.state }
     {
         let n = self.state.lines;
-        self.memory.lines[n] = line.into();
+        self.memory.lines[n] = line;
         self.state.lines = n + 1;
     }
 

@@ -1,15 +1,15 @@
 //! The row calls, without the items that are put.
-ghost use Rattle.std.specs.Prelude.{◌≡◌, ℕ, ◌≤◌, ℤ, Ok};
+ghost use Rattle.std.specs.Prelude.{◌≡◌, ℕ, ◌≤◌, [], ℤ, Ok};
 ghost use Rattle.ledger.specs.Ledger.{Item};
 ghost use Rattle.ledger.specs.Naturals.{start_verdict};
 ghost use Rattle.ledger.specs.Calls.{take_verdict, omit_verdict, lay_verdict, tab_verdict, span_verdict, next_verdict, rule_verdict, opened, omits, on_open, lays, tabs, carries, gives_up, ruled_by, starts};
-ghost use Rattle.rows.specs.Held.{bare_line};
+ghost use Rattle.rows.specs.Held.{rowed, line_of};
 ghost use Rattle.rows.specs.Good.{Goes};
 ghost use Rattle.rows.specs.Answers.{unless, followed};
 ghost use Rattle.rows.specs.Views.{templates_at, room_at, ledger_at, in_hand, SoundAt, Stays, StaysSound};
 
 use crate::rows::Rows;
-use crate::state::{Bare, Cell, Row, Stage};
+use crate::state::{Cell, LineRecord, Row, Stage};
 use extent::Extent;
 use faults::{Cause, Fault};
 use ledger::records::Room;
@@ -153,9 +153,11 @@ impl<'a, 'p, E: Extent> Rows<'a, 'p, E> {
     }
 
     /// Adds a line without entries.
-    pub fn rule(&mut self, line: Bare) -> Result<(), Fault>
+    // Any line that takes no entries: an enum of rule and gap would ask more than this.
+    pub fn rule(&mut self, line: LineRecord) -> Result<(), Fault>
+        requires { rowed line ≡ 0 }
         ensures answer { result ≡ unless (rule_verdict (templates_at self.old) (room_at self.old) (ledger_at self.old)) tt }
-        ensures ledger { ledger_at self.new ≡ followed result (ledger_at self.old) (ruled_by (bare_line line) (ledger_at self.old)) }
+        ensures ledger { ledger_at self.new ≡ followed result (ledger_at self.old) (ruled_by (line_of line []) (ledger_at self.old)) }
         ensures sound { StaysSound E.count E.num self.old self.new }
         ensures stays { Stays self.old self.new }
     {

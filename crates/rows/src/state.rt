@@ -1,6 +1,3 @@
-ghost use Rattle.std.specs.Prelude.{◌≡◌};
-ghost use Rattle.rows.specs.Held.{bare_record};
-
 use ledger::records::ItemRecord;
 use widths::Entry;
 
@@ -17,24 +14,6 @@ pub enum LineRecord {
     Row(usize),
     Rule,
     Gap(i64),
-}
-
-/// A line without entries.
-#[derive(Clone, Copy, PartialEq, Eq, Debug)]
-pub enum Bare {
-    Rule,
-    Gap(i64),
-}
-
-impl From<Bare> for LineRecord {
-    ghost from_gives = { λ line r. r ≡ bare_record line };
-
-    fn from(line: Bare) -> LineRecord {
-        match line {
-            Bare::Rule => LineRecord::Rule,
-            Bare::Gap(sp) => LineRecord::Gap(sp),
-        }
-    }
 }
 
 /// How far the lent memory is used.

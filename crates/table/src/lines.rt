@@ -8,7 +8,7 @@ use crate::table::Table;
 use extent::Extent;
 use faults::{Cause, Fault};
 use measure::Measurer;
-use rows::state::Bare;
+use rows::state::LineRecord;
 
 // A gap's length is from 0 to 16,777,215.
 fn gap_fits(sp: i64) -> bool
@@ -24,7 +24,7 @@ impl<'a, 'p, 'm, M: Measurer> Table<'a, 'p, 'm, M> {
         ensures ledger { ledger_in self.new ≡ followed result (ledger_in self.old) (ruled_by rule (ledger_in self.old)) }
         ensures kept { Kept self.old self.new }
     {
-        self.rows.rule(Bare::Rule)
+        self.rows.rule(LineRecord::Rule)
     }
 
     /// Adds a gap of this length.
@@ -37,6 +37,6 @@ impl<'a, 'p, 'm, M: Measurer> Table<'a, 'p, 'm, M> {
         if !gap_fits(sp) {
             return Err(Cause::OutOfRange.at(0));
         }
-        self.rows.rule(Bare::Gap(sp))
+        self.rows.rule(LineRecord::Gap(sp))
     }
 }

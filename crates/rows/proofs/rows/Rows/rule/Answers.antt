@@ -1,8 +1,8 @@
-use Rattle.std.proofs.Common.{true, false, take, sym, refl, ap, ◌∙◌, ◌≡◌, rules, Err}
+use Rattle.std.proofs.Common.{true, false, [], take, sym, refl, ap, ◌∙◌, ◌≡◌, rules, Err}
 use Rattle.std.specs.List.{flat_map}
 use Rattle.ledger.specs.Calls.{entries_in}
 use Rattle.rows.specs.declared.state.State.{State}
-use Rattle.rows.specs.Held.{Held, held_of, bare_record, bare_line}
+use Rattle.rows.specs.Held.{Held, held_of, line_of}
 use Rattle.rows.specs.Good.{templates_of, room_in, open_in}
 use Rattle.ledger.specs.Refusals.{table_full}
 use Rattle.rows.proofs.Verdicts.{refused, accepted, vacant, stopped}
@@ -41,9 +41,9 @@ returns g c =
     let e-stage = ap (λ (x : State g.row.E.Denot). x.stage) c.add_bare.ensures.state in
     record {
       answer = accepted _ tt (rule-verdict (templates_of q) p s.lines s.laid s.marks s.row.begin m.lines.now m.entries.now m.items.now m.text.now fit s.row.column s.row.first (room_in m) s.stage false o full);
-      ledger = same-ledger s'.stage s.stage s'.row.column s.row.column s'.row.first s.row.first (held_of p s' m') e-stage e-column e-first ∙ rule-ledger s.stage s.row.column s.row.first (held_of p s m) (held_of p s' m') (bare_line c.args.line) (a.acts.held p);
+      ledger = same-ledger s'.stage s.stage s'.row.column s.row.column s'.row.first s.row.first (held_of p s' m') e-stage e-column e-first ∙ rule-ledger s.stage s.row.column s.row.first (held_of p s m) (held_of p s' m') (line_of c.args.line []) (a.acts.held p);
       sound = λ wide sound.
           closed-sound g.E.Extent.count g.E.Extent.num wide q s s' m m' sound
-          e-laid (ap (take s.laid.entries) a.acts.entries) (ap (λ (h : Held). flat_map entries_in h.lines) (a.acts.held p) ∙ bare-entries (bare_record c.args.line) (held_of p s m).lines) (ap open_in e-stage ∙ o);
+          e-laid (ap (take s.laid.entries) a.acts.entries) (ap (λ (h : Held). flat_map entries_in h.lines) (a.acts.held p) ∙ bare-entries c.args.line (held_of p s m).lines) (ap open_in e-stage ∙ o);
       stays = record { preamble = refl; lens = a.acts.lens };
     }
