@@ -1,4 +1,4 @@
-ghost use Rattle.std.specs.Prelude.{◌≡◌, ℕ, ◌<◌, ◌≤◌, true, false, length, ℤ, is_ok, IfOk, slice_index_or};
+ghost use Rattle.std.specs.Prelude.{◌≡◌, ℕ, ◌<◌, ◌≤◌, true, false, length, is_ok, IfOk, slice_index_or};
 ghost use Rattle.widths.specs.Formula.{edge, natural};
 ghost use Rattle.spans.specs.Tables.{column, starting, after, SizedOn};
 ghost use Rattle.spans.specs.Refusals.{edges_fault, unless, Refusing};

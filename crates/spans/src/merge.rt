@@ -1,4 +1,4 @@
-ghost use Rattle.std.specs.Prelude.{◌≡◌, ℕ, ◌+◌, ◌*◌, ◌<◌, ◌≤◌, true, false, List, length, ℤ, is_ok, Some, None, slice_index_or};
+ghost use Rattle.std.specs.Prelude.{◌≡◌, ℕ, ◌+◌, ◌*◌, ◌<◌, ◌≤◌, true, false, List, length, is_ok, None, slice_index_or};
 ghost use Rattle.extent.specs.Sizes.{Near};
 ghost use Rattle.widths.specs.declared.Entry.{Entry as Noted};
 ghost use Rattle.widths.specs.Merging.{seen, less, join, size, width};

@@ -10,7 +10,7 @@ use widths::{Entry, Spanned};
 fn lies<E: Extent>(columns: usize, entry: Entry<E>) -> bool
     ensures { result ≡ lie columns entry }
 {
-    entry.first <= entry.last && entry.last < columns
+    (entry.first..columns).contains(&entry.last)
 }
 
 fn all_lie<E: Extent, R: Spanned<E>>(columns: usize, entries: &[R]) -> bool

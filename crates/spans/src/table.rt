@@ -1,4 +1,4 @@
-ghost use Rattle.std.specs.Prelude.{◌≡◌, ℕ, ◌+◌, ◌*◌, ◌<◌, ◌≤◌, true, false, List, [], ◌∷◌, ◌++◌, length, ℤ, is_ok, Some, None, ◌≢◌, slice_index_or, slice_set};
+ghost use Rattle.std.specs.Prelude.{◌≡◌, ℕ, ◌+◌, ◌*◌, ◌<◌, ◌≤◌, true, false, List, [], ◌++◌, length, is_ok, Some, None, ◌≢◌, slice_index_or};
 ghost use Rattle.widths.specs.declared.Entry.{Entry as Noted};
 ghost use Rattle.widths.specs.Merging.{seen, join};
 ghost use Rattle.spans.specs.Tables.{cell, Tabled, accepted};
@@ -45,7 +45,7 @@ impl<'a, E: Extent> SpanTable<'a, E> {
         ensures { result ≡ unless (span_fault self.now.columns (length self.now.cells.now) first last) tt }
     {
         self.check()?;
-        if first <= last && last < self.columns {
+        if (first..self.columns).contains(&last) {
             Ok(())
         } else {
             Err(Misfit::Span)
