@@ -1,5 +1,5 @@
 -- What is read lies within the text, and its numbers within their ranges: laws of the definitions. Assumes nothing.
-use Rattle.std.proofs.Common.{◌≡◌, ℕ, ◌+◌, ◌<◌, ◌≤◌, Bool, true, false, List, [], ◌∷◌, ◌++◌, length, drop, ℤ, pos, negsuc, ◌≤ℤ◌, Some, None, Ok, Err, codes, Option, Result, sym, refl, ap, ◌∙◌, subst, ⊎_elim, arith, length-append, length-drop}
+use Rattle.std.proofs.Common.{◌≡◌, ℕ, ◌+◌, ◌<◌, ◌≤◌, Bool, true, false, List, [], ◌∷◌, ◌++◌, length, drop, pos, Some, None, Ok, Err, codes, Option, Result, sym, refl, ap, ◌∙◌, subst, ⊎_elim, arith, length-append, length-drop}
 use Rattle.std.proofs.lemmas.Int.{ints}
 use Rattle.std.proofs.lemmas.Bool.{cases_Bool, cond-true, cond-false}
 use Rattle.faults.specs.declared.Fault.{Fault}
@@ -12,6 +12,7 @@ use Rattle.lengths.specs.declared.length.Length.{Length}
 use Rattle.lengths.specs.Orders.{unit_text}
 use Rattle.lengths.specs.Dimens.{largest, swallowed, begins_with, dimen_of}
 use Rattle.lengths.specs.Lengths.{missing_at, length_at}
+use Rattle.lengths.specs.Ranges.{NaturalRange}
 use Rattle.lengths.specs.Gaps.{parts, InRange}
 use Rattle.lengths.specs.Glues.{GlueParts, stretch_placed, stretch_at, stretched, behind_length, glue_at}
 use Rattle.lengths.specs.Spelling.{SpellsMeasure, SpellsLength, sign, signed}
@@ -42,7 +43,7 @@ measures-inside s size o n h =
     let unit = length-append (unit_text o) h.rest in
     (omega (arith, h.len), omega (arith, h.len))
 
-signed-within : (minus : Bool) (size : ℕ) → size ≤ largest → (negsuc 16777214 ≤ℤ signed minus size) × (signed minus size ≤ℤ pos 16777215)
+signed-within : (minus : Bool) (size : ℕ) → size ≤ largest → NaturalRange (signed minus size)
 signed-within true size h = (omega (arith, ints), omega (arith, ints))
 signed-within false size h = (omega (arith, ints), omega (arith, ints))
 
@@ -53,7 +54,7 @@ sign-inside s minus size n h =
     let parted = length-append (sign minus) h.tail in
     (omega (arith, h.len, body.0), omega (arith, h.len, body.1))
 
-pub length-within : (text : List ℕ) (place : ℕ) (l : Length) → length_at text place ≡ Ok l → (negsuc 16777214 ≤ℤ l.sp) × (l.sp ≤ℤ pos 16777215) × (place < l.end) × (l.end ≤ length text)
+pub length-within : (text : List ℕ) (place : ℕ) (l : Length) → length_at text place ≡ Ok l → NaturalRange l.sp × (place < l.end) × (l.end ≤ length text)
 length-within text place l e =
     let q = (reads-length text place (length_at text place) refl).only l e in
     let n = q.2 in
@@ -62,7 +63,7 @@ length-within text place l e =
     let sp = ap (λ (x : Length). x.sp) q.5 in
     let end = ap (λ (x : Length). x.end) q.5 in
     let left = length-drop place text in
-    (subst (λ (z : ℤ). negsuc 16777214 ≤ℤ z) (sym sp) range.0, subst (λ (z : ℤ). z ≤ℤ pos 16777215) (sym sp) range.1, omega (arith, end, inside.0), omega (arith, end, left, inside.0, inside.1))
+    (subst NaturalRange (sym sp) range, omega (arith, end, inside.0), omega (arith, end, left, inside.0, inside.1))
 
 stretch-by : (text : List ℕ) (at : ℕ) (s : Dimen) (r : Option Dimen) → dimen_of (drop at text) ≡ r → stretch_placed text at r ≡ Ok s → (s.size ≤ 16777215) × (at < s.end) × (s.end ≤ length text)
 stretch-by text at s None e h = absurd (ok_err s (missing_at text at) (sym h))
@@ -89,7 +90,7 @@ module _ (text : List ℕ) (place : ℕ) (g : GlueParts) where
       let first = length-within text place l there in
       let then = stretch-within text at s e in
       let got : GlueParts = record { gap = parts l.sp (pos s.size) s.order; end = s.end } in
-      subst (GlueWithin text place) (ok_is got g h) ((first.0, first.1, omega (arith, ints), omega (arith, ints, then.0)), omega (arith, first.2, then.1), then.2)
+      subst (GlueWithin text place) (ok_is got g h) ((first.0, (omega (arith, ints), omega (arith, ints, then.0))), omega (arith, first.1, then.1), then.2)
 
   length-by : (r : Result Length Fault) → length_at text place ≡ r → behind_length text r ≡ Ok g → GlueWithin text place g
   length-by (Err f) e h = absurd (ok_err g f (sym h))
@@ -102,7 +103,7 @@ module _ (text : List ℕ) (place : ℕ) (g : GlueParts) where
       ⊎_elim
       (λ t. plus-by l at (stretch_at text at) e (omega arith) refl (sym (cond-true test (stretched l.sp (stretch_at text at)) (Ok got) t) ∙ h))
       (λ t. subst (GlueWithin text place) (ok_is got g (sym (cond-false test (stretched l.sp (stretch_at text at)) (Ok got) t) ∙ h))
-      ((first.0, first.1, omega (arith, ints), omega (arith, ints)), first.2, first.3))
+      ((first.0, (omega (arith, ints), omega (arith, ints))), first.1, first.2))
       (cases_Bool test)
 
   pub glue-within : glue_at text place ≡ Ok g → GlueWithin text place g

@@ -1,8 +1,9 @@
 -- A gap by its parts. Assumes nothing.
-use Rattle.std.specs.Prelude.{◌≡◌, Bool, cond, ◌&&◌, ℤ, pos, negsuc, ◌≤ℤ◌, Some, None, Option, int_le}
+use Rattle.std.specs.Prelude.{◌≡◌, Bool, cond, ◌&&◌, ℤ, pos, negsuc, Some, None, Option, int_le}
 use Rattle.lengths.specs.declared.order.Order.{Order}
 use Rattle.lengths.specs.declared.gap.Gap.{Gap}
 use Rattle.lengths.specs.Orders.{order_number, order_from}
+use Rattle.lengths.specs.Ranges.{NaturalRange, SizeRange}
 
 pub record Parts : Type 0 where
   pub natural : ℤ
@@ -33,7 +34,7 @@ gap_of natural stretch order = of_order natural stretch (order_from order)
 
 -- a natural length within ±16,777,215, and a stretch from 0 to 16,777,215
 abbrev pub InRange : ℤ → ℤ → Type 0
-InRange natural stretch = (negsuc 16777214 ≤ℤ natural) × (natural ≤ℤ pos 16777215) × (pos 0 ≤ℤ stretch) × (stretch ≤ℤ pos 16777215)
+InRange natural stretch = NaturalRange natural × SizeRange stretch
 
 -- the answer to three numbers: a gap of these parts, if they are in their ranges
 pub record MakesGap (natural stretch number : ℤ) (r : Option Parts) : Type 0 where

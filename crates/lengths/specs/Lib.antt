@@ -2,6 +2,7 @@ pub mod Fractions
 pub mod Amounts
 pub mod Orders
 pub mod Dimens
+pub mod Ranges
 pub mod Gaps
 pub mod Lengths
 pub mod Glues

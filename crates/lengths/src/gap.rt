@@ -1,5 +1,5 @@
 //! The gap between two columns.
-ghost use Rattle.std.specs.Prelude.{pos, negsuc, ◌≤ℤ◌};
+ghost use Rattle.lengths.specs.Ranges.{NaturalRange, SizeRange};
 
 use crate::order::Order;
 
@@ -11,5 +11,6 @@ pub struct Gap {
     natural: i64,
     stretch: i64,
     order: Order,
-    ghost ok: { (negsuc 16777214 ≤ℤ natural) × (natural ≤ℤ pos 16777215) × (pos 0 ≤ℤ stretch) × (stretch ≤ℤ pos 16777215) },
+    ghost ok: { NaturalRange natural },
+    ghost fits: { SizeRange stretch },
 }

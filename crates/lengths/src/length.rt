@@ -1,7 +1,8 @@
 //! Lengths: an optional minus, an amount, and `pt`.
-ghost use Rattle.std.specs.Prelude.{◌≡◌, ◌<◌, ◌≤◌, length, pos, negsuc, ◌≤ℤ◌, IfSome, IfOk};
+ghost use Rattle.std.specs.Prelude.{◌≡◌, ◌<◌, ◌≤◌, length, IfSome, IfOk};
 ghost use Rattle.lengths.specs.Laws.{ReadsLength};
 ghost use Rattle.lengths.specs.Lengths.{points_of, length_of, missing_at, length_at};
+ghost use Rattle.lengths.specs.Ranges.{NaturalRange, SizeRange};
 
 use crate::dimen::dimen_in;
 use crate::order::Order;
@@ -20,7 +21,7 @@ pub struct Length {
 // The length without a sign at the start of the bytes, with its end counted from there.
 fn points_in(s: &[u8]) -> Option<Length>
     ensures is { result ≡ points_of s.now }
-    ensures inside { IfSome result (λ l. (pos 0 ≤ℤ l.sp) × (l.sp ≤ℤ pos 16777215) × (1 ≤ l.end) × (l.end ≤ length s.now)) }
+    ensures inside { IfSome result (λ l. SizeRange l.sp × (1 ≤ l.end) × (l.end ≤ length s.now)) }
 {
     dimen_in(s)
         .filter(|d| d.order == Order::Points)
@@ -33,7 +34,7 @@ fn points_in(s: &[u8]) -> Option<Length>
 // The length at the start of the bytes, with its end counted from there. A minus turns the rounded amount.
 fn length_in(s: &[u8]) -> Option<Length>
     ensures is { result ≡ length_of s.now }
-    ensures inside { IfSome result (λ l. (negsuc 16777214 ≤ℤ l.sp) × (l.sp ≤ℤ pos 16777215) × (1 ≤ l.end) × (l.end ≤ length s.now)) }
+    ensures inside { IfSome result (λ l. NaturalRange l.sp × (1 ≤ l.end) × (l.end ≤ length s.now)) }
 {
     match s {
         [b'-', tail @ ..] => {
@@ -61,7 +62,7 @@ pub(crate) fn missing(text: &[u8], place: usize) -> Fault
 // The length at a place of a text.
 pub fn length_at(text: &[u8], place: usize) -> Result<Length, Fault>
     ensures answer { result ≡ length_at text.now place }
-    ensures within { IfOk result (λ l. (negsuc 16777214 ≤ℤ l.sp) × (l.sp ≤ℤ pos 16777215) × (place < l.end) × (l.end ≤ length text.now)) }
+    ensures within { IfOk result (λ l. NaturalRange l.sp × (place < l.end) × (l.end ≤ length text.now)) }
     ensures law { ReadsLength text.now place result }
 {
     length_in(rest_at(text, place))

@@ -1,7 +1,8 @@
 //! A gap's parts, and the one place where a gap is made.
-ghost use Rattle.std.specs.Prelude.{◌≡◌, true, pos, negsuc, ◌≤ℤ◌};
+ghost use Rattle.std.specs.Prelude.{◌≡◌, true, pos};
 ghost use Rattle.std.specs.Option.{option_map};
 ghost use Rattle.lengths.specs.Gaps.{parts, parts_of, natural_fits, stretch_fits, gap_of, MakesGap};
+ghost use Rattle.lengths.specs.Ranges.{NaturalRange, SizeRange};
 
 use crate::gap::Gap;
 use crate::order::Order;
@@ -45,7 +46,7 @@ impl Gap {
     // The natural length, within ±16,777,215.
     pub fn natural(self) -> i64
         ensures answer { result ≡ (parts_of self).natural }
-        ensures within { (negsuc 16777214 ≤ℤ result) × (result ≤ℤ pos 16777215) }
+        ensures within { NaturalRange result }
     {
         self.natural
     }
@@ -53,7 +54,7 @@ impl Gap {
     // The stretch, from 0 to 16,777,215.
     pub fn stretch(self) -> i64
         ensures answer { result ≡ (parts_of self).stretch }
-        ensures within { (pos 0 ≤ℤ result) × (result ≤ℤ pos 16777215) }
+        ensures within { SizeRange result }
     {
         self.stretch
     }

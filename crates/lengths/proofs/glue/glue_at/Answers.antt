@@ -31,21 +31,21 @@ returns-in_ok-stretch c =
     let text = c.args.text.now in
     let told = c.in_ok-sp.ensures.within in
     let more = c.in_ok-stretch.ensures.inside in
-    let natural : to_z w64 (of_z w64 l.sp) ≡ l.sp = omega (arith, ints, told.0, told.1) in
+    let natural : to_z w64 (of_z w64 l.sp) ≡ l.sp = omega (arith, ints, told.0.0, told.0.1) in
     let stretch : to_z w64 s.size ≡ pos s.size = omega (arith, ints, more.0) in
     let same = c.of-gap.ensures.answer ∙ ap (λ (z : ℤ). parts z (to_z w64 s.size) s.order) natural ∙ ap (λ (z : ℤ). parts l.sp z s.order) stretch in
     let e = glue-stretched text c.args.place l c.in_ok-sp.ensures.answer c.spaces_end.result c.spaces_end.ensures.answer
     (c.if-begins.ensures.is ∙ ap (begins_with (codes "plus")) c.rest_at.ensures.is)
     s _ same c.in_ok-stretch.ensures.is in
-    record { answer = e; within = (omega (arith, told.2, more.1), more.2); law = reads-glue text c.args.place _ e }
+    record { answer = e; within = (omega (arith, told.1, more.1), more.2); law = reads-glue text c.args.place _ e }
 
 pub returns-else-begins : goal.returns-else-begins
 returns-else-begins c =
     let l = c.in_ok-sp.field-0 in
     let text = c.args.text.now in
     let told = c.in_ok-sp.ensures.within in
-    let natural : to_z w64 (of_z w64 l.sp) ≡ l.sp = omega (arith, ints, told.0, told.1) in
+    let natural : to_z w64 (of_z w64 l.sp) ≡ l.sp = omega (arith, ints, told.0.0, told.0.1) in
     let e = glue-plain text c.args.place l c.in_ok-sp.ensures.answer
     _ (c.of-gap-else-begins.ensures.answer ∙ ap (λ (z : ℤ). parts z (pos 0) Points) natural)
     (c.if-begins.ensures.is ∙ ap (begins_with (codes "plus")) c.rest_at.ensures.is) in
-    record { answer = e; within = (told.2, told.3); law = reads-glue text c.args.place _ e }
+    record { answer = e; within = (told.1, told.2); law = reads-glue text c.args.place _ e }

@@ -7,7 +7,7 @@ use Rattle.lengths.specs.Gaps.{stretch_fits, InRange}
 use Rattle.lengths.proofs.gap.Gap.new.Goals as goal
 
 fits : (n s : ℤ) → InRange n s → stretch_fits s ≡ true
-fits n s h = and_from (le_z (pos 0) s) (le_z s (pos 16777215)) (grind (arith, ints, h.2)) (grind (arith, ints, h.3))
+fits n s h = and_from (le_z (pos 0) s) (le_z s (pos 16777215)) (grind (arith, ints, h.1.0)) (grind (arith, ints, h.1.1))
 
 pub returns-then-not-contains-2-clause-answer : goal.returns-then-not-contains-2-clause-answer
 returns-then-not-contains-2-clause-answer c =
