@@ -1,5 +1,5 @@
 -- Rows written over a part of another, one behind the other, and what is added to an output. Assumes nothing.
-use Rattle.std.proofs.Common.{◌≡◌, ℕ, ◌+◌, ◌<◌, ◌≤◌, List, [], ◌++◌, length, get_or, take, drop, sym, refl, ap, subst, ◌∙◌, arith}
+use Rattle.std.proofs.Common.{◌≡◌, ℕ, ◌+◌, ◌<◌, ◌≤◌, List, [], ◌++◌, length, get_or, take, drop, sym, ap, subst, ◌∙◌, arith}
 use Rattle.std.proofs.lemmas.List.{append_assoc, drop-drop, take_more, flat_map_more, length-drop, take-append-drop, length-append, length-take-le, take_at, drop_at}
 use Rattle.std.proofs.lemmas.List.Folds.{length-flat_map-take}
 use Rattle.std.specs.List.{flat_map}
@@ -29,9 +29,6 @@ module _ {X : Type 0} where
 
   length-over : (xs old : List X) (place : ℕ) → place + length xs ≤ length old → length (over old place xs) ≡ length old
   length-over xs old place room = simp (length-append, length-drop) (omega (arith, length-take-le place old))
-
-pub added-none : (o : Output) → Added o o []
-added-none o = record { same = refl; next = omega arith; bytes = sym (over_none o.bytes.now o.place) }
 
 -- rows added one behind the other, where there is room for both
 module _ (a b : Output) (xs ys : List ℕ) (added : Added a b xs) (room : HasRoom a (xs ++ ys)) where

@@ -118,7 +118,7 @@ impl BoxRecord {
         ensures within { result ≤ 180 }
     {
         let frame = count_all(&self.frame());
-        if let Kind::Word = self.kind {
+        if self.kind == Kind::Word {
             frame + count_all(&self.part())
         } else {
             frame
@@ -131,7 +131,7 @@ impl BoxRecord {
         ensures { Added out.old out.new (bytes_of_box self.now) }
     {
         out.put_all(&self.frame());
-        if let Kind::Word = self.kind {
+        if self.kind == Kind::Word {
             out.put_all(&self.part());
         }
     }

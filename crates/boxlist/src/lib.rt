@@ -52,7 +52,7 @@ pub struct BoxRecord {
 }
 
 // What is drawn: the width and the total height of the table, and its boxes.
-#[derive(Clone, Copy)]
+#[derive(Clone, Copy, PartialEq, Eq, Debug)]
 pub struct BoxList<'a> {
     pub width: i64,
     pub height: i64,

@@ -35,6 +35,7 @@ fn count_groups(n: u64) -> usize
 }
 
 // How many bytes the numbers take; no number has more than ten groups.
+// `Output` stays beside it: the count is a chain of one line; a trait over both would need a state and a law of its own.
 pub(crate) fn count_all(numbers: &[u64]) -> usize
     requires { length numbers.now ≤ 9 }
     ensures total { result ≡ length (all_groups numbers.now) }
@@ -44,6 +45,7 @@ pub(crate) fn count_all(numbers: &[u64]) -> usize
 }
 
 // Bytes, and the place behind those that are written.
+// `count_all` stays beside it: the count is a chain of one line; a trait over both would need a state and a law of its own.
 #[derive(Drop)]
 pub(crate) struct Output<'a> {
     bytes: &'a mut [u8],
