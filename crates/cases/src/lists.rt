@@ -1,7 +1,7 @@
 use boxlist::{BoxList, BoxRecord, Kind, Store, fetch, write};
 use extent::{Plain, Twin};
 use faults::{Cause, Fault};
-use measure::{Mono, TwinMeasurer, measured};
+use measure::{Metrics, Mono, TwinMeasurer, measured};
 use std::test::Fail;
 
 const EMPTY: BoxRecord = BoxRecord {
@@ -186,20 +186,34 @@ fn mono(pitch: i64, last: i64) -> Result<Mono, Fault> {
 #[test]
 fn measurers(rt: HostRuntime) -> Result<(), Fail> {
     let strip = mono(10, 126)?;
-    let metrics = measured(&strip, b"ab~")?;
-    assert_eq!(rt; metrics.width, Plain { strip: 30 });
-    assert_eq!(rt; metrics.depth, Plain { strip: 2 });
+    assert_eq!(rt;
+        measured(&strip, b"ab~"),
+        Ok(Metrics {
+            width: Plain { strip: 30 },
+            height: Plain { strip: 7 },
+            depth: Plain { strip: 2 },
+        })
+    );
     let twin = TwinMeasurer {
         strip,
         window: mono(4, 97)?,
     };
-    let metrics = measured(&twin, b"aa")?;
     assert_eq!(rt;
-        metrics.width,
-        Twin {
-            strip: 20,
-            window: 8,
-        }
+        measured(&twin, b"aa"),
+        Ok(Metrics {
+            width: Twin {
+                strip: 20,
+                window: 8,
+            },
+            height: Twin {
+                strip: 7,
+                window: 7,
+            },
+            depth: Twin {
+                strip: 2,
+                window: 2,
+            },
+        })
     );
     assert_eq!(rt; measured(&twin, b"aab"), Err(Cause::NoCharacter.at(2)));
     assert_eq!(rt; mono(4_194_305, 126), Err(Cause::MeasurerRange.at(0)));

@@ -1,6 +1,8 @@
 use faults::{Cause, Fault};
-use lengths::glue::glue_at;
+use lengths::gap::Gap;
+use lengths::glue::{Glue, glue_at};
 use lengths::length::{Length, length_at};
+use lengths::order::Order;
 use reader::tokens::{Control, Lexeme, Token, token_at};
 use std::test::Fail;
 
@@ -90,12 +92,13 @@ fn glue(rt: HostRuntime) -> Result<(), Fail> {
         (b"1pt  plus 1fil", 65_536, 0, 0, 4),
     ];
     for (text, natural, stretch, order, end) in cases {
-        let glue = glue_at(text, 0)?;
-        assert_eq!(rt; glue.gap.natural(), natural, "{text:?}");
-        assert_eq!(rt; glue.gap.stretch(), stretch, "{text:?}");
-        assert_eq!(rt; i64::from(glue.gap.order()), order, "{text:?}");
-        assert_eq!(rt; glue.end, end, "{text:?}");
+        let expected = Gap::new(natural, stretch, order).map(|gap| Glue { gap, end });
+        assert_eq!(rt; glue_at(text, 0).ok(), expected, "{text:?}");
     }
+    let gap = glue_at(b"-1pt plus 2fil", 0)?.gap;
+    assert_eq!(rt; gap.natural(), -65_536);
+    assert_eq!(rt; gap.stretch(), 131_072);
+    assert_eq!(rt; gap.order(), Order::Fil);
     assert_eq!(rt;
         glue_at(b"0pt plush", 0).err(),
         Some(Cause::BadLength.at(8))

@@ -11,7 +11,7 @@ ghost use Rattle.widths.specs.Samples.{SamplesSettle};
 use extent::Extent;
 
 // An entry over the columns first to last, by its natural width. Columns are counted from 0.
-#[derive(Clone, Copy)]
+#[derive(Clone, Copy, PartialEq, Eq, Debug)]
 pub struct Entry<E> {
     pub first: usize,
     pub last: usize,
