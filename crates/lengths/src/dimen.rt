@@ -10,7 +10,8 @@ use crate::spelled::Spelled;
 pub(crate) const LARGEST: u64 = 16_777_215;
 
 // An amount with its unit, and the place behind them and the one space byte that they swallow.
-// It has three parts, and a `Spelled` has two: a value and how many bytes spell it.
+// It has three parts, and a `Spelled` has two: a value and how many bytes spell it. That a size is at most LARGEST is in two
+// clauses: as a ghost field it was tried, and every definition of a length would then speak of a copy of these parts.
 #[derive(Clone, Copy)]
 pub(crate) struct Dimen {
     pub(crate) size: u64,

@@ -2,7 +2,7 @@ use ledger::records::ItemRecord;
 use widths::Entry;
 
 /// An entry takes the next `count` items.
-#[derive(Clone, Copy)]
+#[derive(Clone, Copy, PartialEq, Eq, Debug)]
 pub struct EntryRecord<E> {
     pub entry: Entry<E>,
     pub count: usize,
