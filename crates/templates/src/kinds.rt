@@ -3,7 +3,7 @@ ghost use Rattle.std.specs.Prelude.{◌≡◌, ℕ, ◌+◌, ◌<◌, ◌≤◌,
 ghost use Rattle.reader.specs.Reads.{WordWithin};
 ghost use Rattle.lengths.specs.Lengths.{length_at};
 ghost use Rattle.ledger.specs.Ledger.{Item, space, kern, hfil};
-ghost use Rattle.ledger.specs.Naturals.{wide_by};
+ghost use Rattle.ledger.specs.Naturals.{wide_of};
 ghost use Rattle.ledger.specs.Preambles.{bare, skipping, taking, kern_taken, word_taken};
 ghost use Rattle.templates.specs.Kept.{Fits, Sized, Turns};
 ghost use Rattle.templates.specs.Readings.{reading_of};
@@ -90,7 +90,7 @@ impl<E: Extent> Hand<E> {
     ) -> Result<Step<E>, Fault>
         requires fits { Fits self into.old }
         requires within { WordWithin text.now self.place word.place word.len word.end }
-        ensures { Turns E.count E.num (wide_by E.num E.entered (M.Measurer.meaning measurer.now) (M.Measurer.blank measurer.now)) text.now self into.old (word_taken (reading_of text.now self into.old) (M.Measurer.meaning measurer.now (take word.len (drop word.place text.now))) word.place (take word.len (drop word.place text.now)) word.end) into.new result }
+        ensures { Turns E.count E.num (wide_of M.Measurer E.Extent measurer.now) text.now self into.old (word_taken (reading_of text.now self into.old) (M.Measurer.meaning measurer.now (take word.len (drop word.place text.now))) word.place (take word.len (drop word.place text.now)) word.end) into.new result }
     {
         let Word { place, len, end } = word;
         // By `match`: a closure for `map_err` would need a clause of its own for its sum.

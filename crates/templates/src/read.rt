@@ -1,7 +1,7 @@
 //! A whole preamble.
 ghost use Rattle.std.specs.Prelude.{◌≡◌};
 ghost use Rattle.lengths.specs.Gaps.{parts_of};
-ghost use Rattle.ledger.specs.Naturals.{wide_by};
+ghost use Rattle.ledger.specs.Naturals.{wide_of};
 ghost use Rattle.ledger.specs.Preambles.{preamble_of};
 ghost use Rattle.templates.specs.Kept.{KeptIn, WidthsIn};
 ghost use Rattle.templates.specs.Readings.{read_in};
@@ -21,7 +21,7 @@ pub fn read_preamble<M: Measurer>(
 ) -> Result<Read, Fault>
     ensures answer { read_in text.now into.new result ≡ preamble_of text.now (M.Measurer.meaning measurer.now) (parts_of start) }
     ensures kept { KeptIn text.now (parts_of start) into.new result }
-    ensures widths { WidthsIn M.Extent.Extent.count M.Extent.Extent.num (wide_by M.Extent.Extent.num M.Extent.Extent.entered (M.Measurer.meaning measurer.now) (M.Measurer.blank measurer.now)) text.now into.new result }
+    ensures widths { WidthsIn M.Extent.Extent.count M.Extent.Extent.num (wide_of M.Measurer M.Extent.Extent measurer.now) text.now into.new result }
 {
     into.start = start;
     let mut hand = Hand {

@@ -2,7 +2,7 @@
 ghost use Rattle.std.specs.Prelude.{◌≡◌, ℕ, ◌<◌, ◌≤◌, length, ℤ, pos};
 ghost use Rattle.reader.specs.Reads.{Reaches};
 ghost use Rattle.ledger.specs.Ledger.{Item, kern, hfil};
-ghost use Rattle.ledger.specs.Naturals.{wide_by};
+ghost use Rattle.ledger.specs.Naturals.{wide_of};
 ghost use Rattle.ledger.specs.Preambles.{by_control, by_token, step as stepped};
 ghost use Rattle.templates.specs.Kept.{Fits, Sized, Turns};
 ghost use Rattle.templates.specs.Readings.{reading_of, unmeant};
@@ -44,7 +44,7 @@ impl<E: Extent> Hand<E> {
     ) -> Result<Step<E>, Fault>
         requires fits { Fits self into.old }
         requires reach { Reaches text.now self.place lexeme.end lexeme.token }
-        ensures { Turns E.count E.num (wide_by E.num E.entered (M.Measurer.meaning measurer.now) (M.Measurer.blank measurer.now)) text.now self into.old (by_token text.now (M.Measurer.meaning measurer.now) (reading_of text.now self into.old) lexeme.end lexeme.token) into.new result }
+        ensures { Turns E.count E.num (wide_of M.Measurer E.Extent measurer.now) text.now self into.old (by_token text.now (M.Measurer.meaning measurer.now) (reading_of text.now self into.old) lexeme.end lexeme.token) into.new result }
     {
         let end = lexeme.end;
         match lexeme.token {
@@ -68,7 +68,7 @@ impl<E: Extent> Hand<E> {
         text: &[u8],
     ) -> Result<Step<E>, Fault>
         requires { Fits self into.old }
-        ensures { Turns E.count E.num (wide_by E.num E.entered (M.Measurer.meaning measurer.now) (M.Measurer.blank measurer.now)) text.now self into.old (stepped text.now (M.Measurer.meaning measurer.now) (reading_of text.now self into.old)) into.new result }
+        ensures { Turns E.count E.num (wide_of M.Measurer E.Extent measurer.now) text.now self into.old (stepped text.now (M.Measurer.meaning measurer.now) (reading_of text.now self into.old)) into.new result }
     {
         let lexeme = token_at(text, self.place)?;
         self.take_token(measurer, into, text, lexeme)

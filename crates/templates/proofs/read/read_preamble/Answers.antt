@@ -2,7 +2,7 @@ use Rattle.std.proofs.Common.{false, ap, ◌∙◌, subst, sym}
 use Rattle.std.proofs.lemmas.Result.{err_from_is_err_and}
 use Rattle.lengths.specs.Gaps.{Parts, parts_of}
 use Rattle.ledger.specs.declared.records.ColumnRecord.{ColumnRecord}
-use Rattle.ledger.specs.Naturals.{wide_by}
+use Rattle.ledger.specs.Naturals.{wide_of}
 use Rattle.ledger.specs.Preambles.{preamble_of}
 use Rattle.templates.specs.Kept.{Kept}
 use Rattle.templates.specs.Readings.{with_start}
@@ -15,7 +15,7 @@ loop-next-init g c =
     let X = g.M.Extent.Extent in
     let m = c.args.measurer.now in
     let meaning = g.M.Measurer.meaning m in
-    let wide = wide_by X.num X.entered meaning (g.M.Measurer.blank m) in
+    let wide = wide_of g.M.Measurer X m in
     let new = c.empty_column.ensures in
     subst (λ (q : ColumnRecord g.row.M-Extent.Denot). Underway X.count X.num wide c.args.text.now meaning (parts_of q.gap) (record { place = 0; columns = 0; marked = false; column = q }) (with_start c.args.into.now c.args.start)) (sym new.is)
     (begins X.count X.num wide c.args.text.now meaning c.args.start c.empty_column.result.widths c.args.into.now new.u new.v)

@@ -1,11 +1,11 @@
 use Rattle.std.proofs.Common.{◌-◌, length}
 use Rattle.lengths.specs.Gaps.{parts_of}
-use Rattle.ledger.specs.Naturals.{wide_by}
+use Rattle.ledger.specs.Naturals.{wide_of}
 use Rattle.templates.proofs.Whole.{Underway}
 use Rattle.templates.proofs.read.read_preamble.Given as goal
 
 abbrev pub invariant-loop-next : goal.invariant-loop-next
-invariant-loop-next g l = Underway g.M.Extent.Extent.count g.M.Extent.Extent.num (wide_by g.M.Extent.Extent.num g.M.Extent.Extent.entered (g.M.Measurer.meaning l.measurer) (g.M.Measurer.blank l.measurer))
+invariant-loop-next g l = Underway g.M.Extent.Extent.count g.M.Extent.Extent.num (wide_of g.M.Measurer g.M.Extent.Extent l.measurer)
     l.text (g.M.Measurer.meaning l.measurer) (parts_of l.initial.hand.column.gap) l.hand l.into
 
 abbrev pub decreases-loop-next : goal.decreases-loop-next

@@ -1,7 +1,7 @@
 use Rattle.std.proofs.Common.{refl, ap, subst}
 use Rattle.reader.specs.declared.tokens.Token.{Token}
 use Rattle.reader.specs.Reads.{Reaches}
-use Rattle.ledger.specs.Naturals.{wide_by}
+use Rattle.ledger.specs.Naturals.{wide_of}
 use Rattle.ledger.specs.Preambles.{Outcome}
 use Rattle.templates.specs.Kept.{Turns}
 use Rattle.templates.specs.Readings.{reading_of}
@@ -24,7 +24,7 @@ returns-in-Control g c =
     let m = c.args.measurer.now in
     let text = c.args.text.now in
     let meaning = g.M.Measurer.meaning m in
-    let wide = wide_by X.num X.entered meaning (g.M.Measurer.blank m) in
+    let wide = wide_of g.M.Measurer X m in
     let f = subst (λ (k : Token). Reaches text c.args.self.place c.args.lexeme.end k) c.in-Control.is c.requires.reach in
     rw c.in-Control.is
     (subst (λ (o : Outcome). Turns X.count X.num wide text c.args.self c.args.into.now o c.take_control.new.into c.take_control.result) (control-same text meaning (reading_of text c.args.self c.args.into.now) c.args.lexeme.end c.in-Control.control)
