@@ -1,5 +1,5 @@
 //! Boxes as numbers: which are written, how many bytes they take, and the bytes.
-ghost use Rattle.std.specs.Prelude.{◌≡◌, ◌+◌, ◌*◌, ◌^◌, ◌≤◌, length};
+ghost use Rattle.std.specs.Prelude.{◌≡◌, ◌*◌, ◌^◌, ◌≤◌, length};
 ghost use Rattle.std.specs.List.{flat_map, list_all};
 ghost use Rattle.boxlist.specs.Over.{over};
 ghost use Rattle.boxlist.specs.Outputs.{HasRoom, Added};

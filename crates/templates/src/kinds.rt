@@ -1,5 +1,5 @@
 //! The items that tokens give a template.
-ghost use Rattle.std.specs.Prelude.{◌≡◌, ℕ, ◌+◌, ◌<◌, ◌≤◌, false, List, length, take, drop, ℤ, pos, if◌then◌else◌, nat_le};
+ghost use Rattle.std.specs.Prelude.{◌≡◌, ℕ, ◌<◌, ◌≤◌, false, List, length, take, drop, ℤ, pos, if◌then◌else◌, nat_le};
 ghost use Rattle.reader.specs.Reads.{WordWithin};
 ghost use Rattle.lengths.specs.Lengths.{length_at};
 ghost use Rattle.ledger.specs.Ledger.{Item, space, kern, hfil};
