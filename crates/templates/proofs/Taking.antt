@@ -162,15 +162,15 @@ module _ {E : Type 0} (count : ℕ) (num : E → ℕ → ℤ) (wide : Item → �
           record { is = ap refuses e ∙ sym (full_u (reading_of text h t) (meant text p.item []) p.last p.end m (omega arith)); keeps = λ start s. tt }
 
   -- one more item, of the part in hand
-  pub item-turns : cond h.marked h.column.template.v h.column.template.u < 64 → written h < length t.pieces → (c : ColumnRecord E)
-      → (h.marked ≡ false → (c ≡ longer_u h c.widths.u) × Adds count num h.column.widths.u p.width c.widths.u)
-      → (h.marked ≡ true → (c ≡ longer_v h c.widths.v) × Adds count num h.column.widths.v p.width c.widths.v)
+  pub item-turns : written h < length t.pieces → (c : ColumnRecord E)
+      → (h.marked ≡ false → (h.column.template.u < 64) × (c ≡ longer_u h c.widths.u) × Adds count num h.column.widths.u p.width c.widths.u)
+      → (h.marked ≡ true → (h.column.template.v < 64) × (c ≡ longer_v h c.widths.v) × Adds count num h.column.widths.v p.width c.widths.v)
       → Turns count num wide text h t (taking (reading_of text h t) (meant text p.item []) p.last p.end) (with_piece t (written h) p.item) (Ok (Continue (more h p.end c)))
-  item-turns few room c before behind = by h.marked refl
+  item-turns room c before behind = by h.marked refl
     where
       O : ColumnRecord E → Type 0
       O q = Turns count num wide text h t (taking (reading_of text h t) (meant text p.item []) p.last p.end) (with_piece t (written h) p.item) (Ok (Continue (more h p.end q)))
 
       by : (m : Bool) → h.marked ≡ m → O c
-      by true m = subst O (sym (behind m).0) (v-turns m (subst (λ (b : Bool). cond b h.column.template.v h.column.template.u < 64) m few) room c.widths.v (behind m).1)
-      by false m = subst O (sym (before m).0) (u-turns m (subst (λ (b : Bool). cond b h.column.template.v h.column.template.u < 64) m few) room c.widths.u (before m).1)
+      by true m = let q = behind m in subst O (sym q.1) (v-turns m q.0 room c.widths.v q.2)
+      by false m = let q = before m in subst O (sym q.1) (u-turns m q.0 room c.widths.u q.2)

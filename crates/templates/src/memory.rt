@@ -16,7 +16,7 @@ pub struct Templates<E> {
 }
 
 /// What was read: columns, items of their parts, bytes.
-#[derive(Clone, Copy)]
+#[derive(Clone, Copy, PartialEq, Eq, Debug)]
 pub struct Read {
     pub columns: usize,
     pub pieces: usize,
@@ -35,7 +35,7 @@ pub(crate) struct Hand<E> {
     pub(crate) column: ColumnRecord<E>,
 }
 
-/// A word in the text, and the place behind its token.
+/// A word in the text, and the place behind its token. It stays beside `Token::Word`, a variant, which is no type of its own.
 #[derive(Clone, Copy)]
 pub(crate) struct Word {
     pub(crate) place: usize,
