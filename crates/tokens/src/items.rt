@@ -1,5 +1,5 @@
 //! What a manuscript is made of, from its start to its end or its first fault.
-ghost use Rattle.std.specs.Prelude.{ℕ, ◌+◌, ◌-◌, ◌*◌, ◌<◌, ◌≤◌, length, IfOk, IfSome, OnErr, IsSome, ◌⊎◌, is_some, if◌then◌else◌};
+ghost use Rattle.std.specs.Prelude.{ℕ, ◌+◌, ◌-◌, ◌*◌, ◌<◌, ◌≤◌, length, IfOk, IfSome, OnErr, IsSome, ◌⊎◌, is_some, option_map, unwrap_or, if◌then◌else◌};
 ghost use Rattle.std.specs.Iterator.{at_most};
 
 use faults::Fault;
@@ -64,7 +64,8 @@ impl Item {
 // The items of a text from a place on, each with its place. Nothing comes behind a fault.
 #[derive(Drop)]
 pub struct Items<'a> {
-    text: &'a [u8],
+    // none once a fault was met
+    text: Option<&'a [u8]>,
     place: usize,
     due: Option<Operand>,
 }
@@ -72,31 +73,31 @@ pub struct Items<'a> {
 impl<'a> Items<'a> {
     pub(crate) fn new(text: &'a [u8]) -> Items<'a> {
         Items {
-            text,
+            text: Some(text),
             place: 0,
             due: None,
         }
     }
 
-    // The item at the place, and the place behind it.
-    fn read(&self) -> Result<Option<(Item, usize)>, Fault>
-        ensures onward { IfOk result (λ r. IfSome r (λ i. (self.now.place < i.1) × (i.1 ≤ length self.now.text.now))) }
-        ensures inside { OnErr result ((self.now.place < length self.now.text.now) ⊎ IsSome self.now.due) }
+    // The item at the place of the text, and the place behind it.
+    fn read(&self, text: &[u8]) -> Result<Option<(Item, usize)>, Fault>
+        ensures onward { IfOk result (λ r. IfSome r (λ i. (self.now.place < i.1) × (i.1 ≤ length text.now))) }
+        ensures inside { OnErr result ((self.now.place < length text.now) ⊎ IsSome self.now.due) }
     {
         match self.due {
             None => {
-                let lexeme = token_at(self.text, self.place)?;
+                let lexeme = token_at(text, self.place)?;
                 match lexeme.token {
                     Token::End => Ok(None),
                     token => Ok(Some((Item::Token(token), lexeme.end))),
                 }
             }
             Some(Operand::Length) => {
-                let length = length_at(self.text, self.place)?;
+                let length = length_at(text, self.place)?;
                 Ok(Some((Item::Length(length.sp), length.end)))
             }
             Some(Operand::Glue) => {
-                let glue = glue_at(self.text, self.place)?;
+                let glue = glue_at(text, self.place)?;
                 Ok(Some((Item::Glue(glue.gap), glue.end)))
             }
         }
@@ -106,11 +107,12 @@ impl<'a> Items<'a> {
 impl<'a> Iterator for Items<'a> {
     type Item = Result<(usize, Item), Fault>;
 
-    ghost remaining = { λ s. at_most (2 * (length s.text.now - s.place) + (if is_some s.due then 1 else 0)) };
+    ghost remaining = { λ s. at_most (unwrap_or (option_map (λ text. 2 * (length text.now - s.place) + (if is_some s.due then 1 else 0)) s.text) 0) };
 
     fn next(&mut self) -> Option<Result<(usize, Item), Fault>> {
+        let text = self.text?;
         let place = self.place;
-        match self.read() {
+        match self.read(text) {
             Ok(None) => None,
             Ok(Some((item, end))) => {
                 self.place = end;
@@ -118,8 +120,7 @@ impl<'a> Iterator for Items<'a> {
                 Some(Ok((place, item)))
             }
             Err(fault) => {
-                self.text = &[];
-                self.due = None;
+                self.text = None;
                 Some(Err(fault))
             }
         }
