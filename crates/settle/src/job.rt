@@ -2,7 +2,7 @@ ghost use Rattle.std.specs.Prelude.{IfOk, IsTrue};
 ghost use Rattle.std.specs.Range.Bound.{bounds_contain};
 
 use crate::stop::Wrong;
-use extent::{Plain, Twin};
+use extent::{Extent, Plain, Twin};
 use std::alloc::Global;
 use std::ops::RangeBounds;
 use widths::Entry;
@@ -109,24 +109,34 @@ impl Draft {
     }
 
     fn read_entry(&mut self, first: &str, last: &str, widths: &[&str]) -> Result<(), Wrong> {
+        // the number of words is looked at first, then the run, then the widths
+        let run = span(self.gaps.as_ref(), first, last);
         match (&mut self.entries, widths) {
             (Entries::Strip(entries), [strip]) => {
-                let (first, last) = span(self.gaps.as_ref(), first, last)?;
+                let run = run?;
                 let strip = natural(strip)?;
-                let width = Plain { strip };
-                entries.push(Entry { first, last, width })?;
+                push(entries, run, Plain { strip })
             }
             (Entries::StripAndWindow(entries), [strip, window]) => {
-                let (first, last) = span(self.gaps.as_ref(), first, last)?;
+                let run = run?;
                 let strip = natural(strip)?;
                 let window = natural(window)?;
-                let width = Twin { strip, window };
-                entries.push(Entry { first, last, width })?;
+                push(entries, run, Twin { strip, window })
             }
-            _ => return Err(Wrong::NumberOfWords),
+            _ => Err(Wrong::NumberOfWords),
         }
-        Ok(())
     }
+}
+
+// One more entry, over a run of columns.
+fn push<E: Extent>(
+    entries: &mut Vec<Entry<E>>,
+    run: (usize, usize),
+    width: E,
+) -> Result<(), Wrong> {
+    let (first, last) = run;
+    entries.push(Entry { first, last, width })?;
+    Ok(())
 }
 
 // A run of columns, which lines count from 1.
