@@ -1,5 +1,5 @@
 //! What a manuscript is made of, from its start to its end or its first fault.
-ghost use Rattle.std.specs.Prelude.{ℕ, ◌+◌, ◌-◌, ◌*◌, ◌<◌, ◌≤◌, length, IfOk, IfSome, OnErr, IsSome, ◌⊎◌, is_some, option_map, unwrap_or, if◌then◌else◌};
+ghost use Rattle.std.specs.Prelude.{◌+◌, ◌-◌, ◌*◌, ◌<◌, ◌≤◌, length, IfOk, IfSome, OnErr, IsSome, ◌⊎◌, is_some, option_map, unwrap_or, if◌then◌else◌};
 ghost use Rattle.std.specs.Iterator.{at_most};
 
 use faults::Fault;
