@@ -58,6 +58,7 @@ pub enum Layer {
     Measurer,
 }
 
+// The layer is the cause's: hosts read it here.
 #[derive(Clone, Copy, PartialEq, Eq, Debug)]
 pub struct Fault {
     pub cause: Cause,

@@ -116,7 +116,7 @@ pub ok_is : {X : Type 0} (x y : X) → ◌≡◌ {A = Result X Fault} (Ok x) (Ok
 ok_is x y e = cc
 
 pub ok_err : {X : Type 0} (x : X) (f : Fault) → ◌≡◌ {A = Result X Fault} (Ok x) (Err f) → ⊥
-ok_err x f e = let z : ◌≡◌ {A = ℕ} 0 1 = cc in omega arith
+ok_err x f e = cc
 
 -- at a place within the text, the first byte of what is left is the byte there
 pub begins-there : (text : List ℕ) (place : ℕ) → (0 < length (drop place text)) × Begins (get_or (drop place text) 0 0) → (place < length text) × Begins (get_or text place 0)

@@ -1,5 +1,5 @@
 -- The control words and their letters. Assumes nothing.
-use Rattle.std.proofs.Common.{◌≡◌, ℕ, ◌≤◌, cond, List, [], ◌∷◌, length, Some, sym, refl, ap, ◌∙◌, inl, inr, arith, lit≤}
+use Rattle.std.proofs.Common.{◌≡◌, ℕ, ◌≤◌, cond, List, [], ◌∷◌, length, Some, sym, refl, ap, ◌∙◌, inl, inr, lit≤}
 use Rattle.std.specs.List.{find}
 use Rattle.std.specs.Str.{bytes_eq}
 use Rattle.std.proofs.lemmas.List.Recursion.{same_from_clauses}
@@ -36,7 +36,7 @@ letters-one c d same =
 
 first_some : (l : List ℕ) (cs : List Control) (c : Control) → first_spelled l cs ≡ Some c → l ≡ letters_of c
 unfolding first_spelled
-first_some l [] c h = let z : ◌≡◌ {A = ℕ} 0 1 = cc in absurd (omega arith)
+first_some l [] c h = cc
 first_some l (x ∷ xs) c h =
     elim (cases_Bool (bytes_eq l (letters_of x))) [
       | inl t ↦

@@ -23,7 +23,7 @@ use Rattle.ledger.proofs.Cuts.{total-append, length-chunks, chunks-none}
 use Rattle.rows.proofs.Grows.{empty-held, empty-fit}
 use Rattle.rows.proofs.Counts.{lines-count, entries-count, items-count, text-count}
 
-when-one : (b : Bool) → when b table_full ≡ first_of (when b table_full ∷ [])
+pub when-one : (b : Bool) → when b table_full ≡ first_of (when b table_full ∷ [])
 when-one true = refl
 when-one false = refl
 

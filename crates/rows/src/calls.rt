@@ -99,8 +99,7 @@ impl<'a, 'p, E: Extent> Rows<'a, 'p, E> {
             entries: state.marks.entries + 1 + more,
             lines: state.lines + 1,
             text: state.marks.text,
-        })?;
-        Ok(())
+        })
     }
 
     /// Goes on to the next column with a new entry.

@@ -6,6 +6,7 @@ use crate::preamble::Preamble;
 use crate::rows::Rows;
 use ledger::records::ColumnRecord;
 
+// An index with its bound in its type would have to name the preamble that it is of.
 impl<'a, E: Copy> Preamble<'a, E> {
     /// How many columns there are.
     pub fn count(&self) -> usize

@@ -14,6 +14,7 @@ use extent::Extent;
 
 impl<'a, E: Extent> Draft<'a, E> {
     /// Adds what is owed of v.
+    // That the cell is begun stays a clause: its callers test it, and a type for it would have to hold the `&mut`.
     pub(crate) fn add_v(&mut self, preamble: &Preamble<E>)
         requires good { Good self.old.state self.old.memory preamble.now }
         requires begun { begun_in self.old.state.stage ≡ true }

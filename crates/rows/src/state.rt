@@ -16,7 +16,7 @@ pub enum LineRecord {
     Gap(i64),
 }
 
-/// How far the lent memory is used.
+/// How far the lent memory is used. No `Room`: lines are counted once, in `State`, and these are marked twice.
 #[derive(Clone, Copy, PartialEq, Eq, Debug)]
 pub struct Marks {
     pub items: usize,

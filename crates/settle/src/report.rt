@@ -138,6 +138,7 @@ pub(crate) fn report<E: Extent>(
     };
     table.settle(entries, gaps, widths.as_mut_slice())?;
     let total = natural_edges(columns, gaps, widths.as_slice(), edges.as_mut_slice())?;
+    // by number: it is what is printed
     for number in 0..E::sides() {
         let side = Side {
             rt,

@@ -1,6 +1,7 @@
 -- A span table in lent memory, and its sides. Assumes nothing.
-use Rattle.std.specs.Prelude.{◌≡◌, ℕ, ◌+◌, ◌*◌, ◌<◌, ◌≤◌, List, [], ◌∷◌, map, get_or, ℤ, pos, None, Ok, Err, Option, Result, slice_index_or}
+use Rattle.std.specs.Prelude.{◌≡◌, ℕ, ◌+◌, ◌*◌, ◌<◌, ◌≤◌, List, [], ◌∷◌, length, map, get_or, ℤ, pos, None, Ok, Err, Option, Result, slice_index_or}
 use Rattle.std.proofs.lemmas.List.{map-id}
+use Rattle.spans.specs.declared.table.SpanTable.{SpanTable}
 use Rattle.widths.specs.declared.Entry.{Entry}
 use Rattle.widths.specs.Merging.{seen}
 use Rattle.widths.specs.Entries.{widest, on_side, Proper}
@@ -14,6 +15,15 @@ cell table i j = slice_index_or table (i * 32 + j) None
 pub record Tabled {E : Type 0} (count : ℕ) (num : E → ℕ → ℤ) (n : ℕ) (table : List (Option E)) (es : List (Entry E)) : Type 0 where
   pub proper : Proper n es
   pub widths : (k i j : ℕ) → k < count → i ≤ j → j < n → seen num k (cell table i j) ≡ widest (on_side num k es) i j
+
+-- what lies from place n on stays
+abbrev pub KeptFrom : {X : Type 0} → X → ℕ → List X → List X → Type 0
+KeptFrom d n xs ys = (j : ℕ) → n ≤ j → slice_index_or ys j d ≡ slice_index_or xs j d
+
+-- a step changes neither how many columns there are nor how many cells
+pub record SameSize {E : Type 0} (t t' : SpanTable E) : Type 0 where
+  pub columns : t'.columns ≡ t.columns
+  pub room : length t'.cells.now ≡ length t.cells.now
 
 -- the entry, where it was accepted
 abbrev pub accepted : {E X Y : Type 0} → Result X Y → Entry E → List (Entry E)

@@ -1,6 +1,6 @@
 ghost use Rattle.std.specs.Prelude.{◌≡◌, ℕ, ◌<◌, ◌≤◌, true, false, length, is_ok, IfOk, slice_index_or};
 ghost use Rattle.widths.specs.Formula.{edge, natural};
-ghost use Rattle.spans.specs.Tables.{column, starting, after, SizedOn};
+ghost use Rattle.spans.specs.Tables.{KeptFrom, column, starting, after, SizedOn};
 ghost use Rattle.spans.specs.Refusals.{edges_fault, unless, Refusing};
 
 use crate::table::Misfit;
@@ -28,7 +28,7 @@ fn place_edges<E: Extent>(columns: usize, gaps: &[i64], widths: &[Option<E>], ed
         E.num result k ≡ natural (starting E.entered k gaps.now) (column E.num k widths.now) (after E.entered k gaps.now) columns }
     ensures placed { (k : ℕ) → k < E.count → SizedOn E.num E.entered k gaps.now columns widths.now → (j : ℕ) (d : E) → j < columns →
         E.num (slice_index_or edges.new j d) k ≡ edge (starting E.entered k gaps.now) (column E.num k widths.now) (after E.entered k gaps.now) j }
-    ensures rest { (j : ℕ) (d : E) → columns ≤ j → slice_index_or edges.new j d ≡ slice_index_or edges.old j d }
+    ensures rest { (d : E) → KeptFrom d columns edges.old edges.new }
 {
     let mut left = E::enter(gaps[0]);
     // by index: of a zip with `iter_mut` it is known what each borrow writes, and not what the slice then holds
@@ -52,7 +52,7 @@ pub fn natural_edges<E: Extent>(
         E.num n k ≡ natural (starting E.entered k gaps.now) (column E.num k widths.now) (after E.entered k gaps.now) columns) }
     ensures placed { is_ok result ≡ true → (k : ℕ) → k < E.count → SizedOn E.num E.entered k gaps.now columns widths.now → (j : ℕ) (d : E) → j < columns →
         E.num (slice_index_or edges.new j d) k ≡ edge (starting E.entered k gaps.now) (column E.num k widths.now) (after E.entered k gaps.now) j }
-    ensures rest { (j : ℕ) (d : E) → columns ≤ j → slice_index_or edges.new j d ≡ slice_index_or edges.old j d }
+    ensures rest { (d : E) → KeptFrom d columns edges.old edges.new }
     ensures refused { is_ok result ≡ false → edges.new ≡ edges.old }
 {
     check_edges(columns, widths.len(), gaps.len(), edges.len())?;

@@ -3,7 +3,7 @@ ghost use Rattle.extent.specs.Sizes.{Near};
 ghost use Rattle.widths.specs.declared.Entry.{Entry as Noted};
 ghost use Rattle.widths.specs.Merging.{seen, less, join, size, width};
 ghost use Rattle.widths.specs.Entries.{widest, on_side};
-ghost use Rattle.spans.specs.Tables.{cell, Tabled, column, after, SettledOn, TameOn};
+ghost use Rattle.spans.specs.Tables.{KeptFrom, cell, Tabled, column, after, SettledOn, TameOn};
 ghost use Rattle.spans.specs.Refusals.{row_fault, merge_fault, turn_fault, unless};
 
 use crate::table::{Misfit, SpanTable};
@@ -50,7 +50,7 @@ impl<'a, E: Extent> SpanTable<'a, E> {
     fn start_row(&self, row: &mut [Option<E>])
         requires { (self.now.columns ≤ length self.now.cells.now) × (self.now.columns ≤ length row.old) }
         ensures here { (j : ℕ) → j < self.now.columns → slice_index_or row.new j None ≡ slice_index_or self.now.cells.now j None }
-        ensures rest { (j : ℕ) → self.now.columns ≤ j → slice_index_or row.new j None ≡ slice_index_or row.old j None }
+        ensures rest { KeptFrom None self.now.columns row.old row.new }
     {
         row[..self.columns].copy_from_slice(&self.cells[..self.columns]);
     }
@@ -59,7 +59,7 @@ impl<'a, E: Extent> SpanTable<'a, E> {
     fn carry_row(&self, q: usize, by: E, row: &mut [Option<E>])
         requires { (self.now.columns ≤ 32) × ((self.now.columns * 32 ≤ length self.now.cells.now) × ((self.now.columns ≤ length row.old) × (q < self.now.columns))) }
         ensures before { (j : ℕ) → j ≤ q → slice_index_or row.new j None ≡ slice_index_or row.old j None }
-        ensures rest { (j : ℕ) → self.now.columns ≤ j → slice_index_or row.new j None ≡ slice_index_or row.old j None }
+        ensures rest { KeptFrom None self.now.columns row.old row.new }
         ensures carried { (k j : ℕ) → k < E.count → q < j → j < self.now.columns → Near (size (seen E.num k (slice_index_or row.old j None))) → Near (E.num by k) →
             seen E.num k (slice_index_or row.new j None) ≡ join (seen E.num k (cell self.now.cells.now (q + 1) j)) (less (seen E.num k (slice_index_or row.old j None)) (E.num by k)) }
     {
@@ -74,7 +74,7 @@ impl<'a, E: Extent> SpanTable<'a, E> {
         requires { (self.now.columns ≤ 32) × ((self.now.columns * 32 ≤ length self.now.cells.now) × ((self.now.columns ≤ length widths.old) × (self.now.columns < length gaps.now))) }
         ensures merged { (es : List (Noted E)) → Tabled E.count E.num self.now.columns self.now.cells.now es → (k j : ℕ) → k < E.count → TameOn E.num k es gaps.now → j < self.now.columns →
             column E.num k widths.new j ≡ width (widest (on_side E.num k es)) (after E.entered k gaps.now) j }
-        ensures rest { (j : ℕ) → self.now.columns ≤ j → slice_index_or widths.new j None ≡ slice_index_or widths.old j None }
+        ensures rest { KeptFrom None self.now.columns widths.old widths.new }
     {
         self.start_row(widths);
         // by index: a turn names the width in hand, the gap behind it and the next row of cells
@@ -88,7 +88,7 @@ impl<'a, E: Extent> SpanTable<'a, E> {
     pub fn begin(&self, row: &mut [Option<E>]) -> Result<(), Misfit>
         ensures answer { result ≡ unless (row_fault self.now.columns (length self.now.cells.now) (length row.old)) tt }
         ensures here { is_ok result ≡ true → (j : ℕ) → j < self.now.columns → slice_index_or row.new j None ≡ cell self.now.cells.now 0 j }
-        ensures rest { (j : ℕ) → self.now.columns ≤ j → slice_index_or row.new j None ≡ slice_index_or row.old j None }
+        ensures rest { KeptFrom None self.now.columns row.old row.new }
         ensures refused { is_ok result ≡ false → row.new ≡ row.old }
     {
         self.check_row(row.len())?;
@@ -102,7 +102,7 @@ impl<'a, E: Extent> SpanTable<'a, E> {
         ensures before { (j : ℕ) → j ≤ q → slice_index_or row.new j None ≡ slice_index_or row.old j None }
         ensures carried { is_ok result ≡ true → (k j : ℕ) → k < E.count → q < j → j < self.now.columns → Near (size (seen E.num k (slice_index_or row.old j None))) → Near (E.num by k) →
             seen E.num k (slice_index_or row.new j None) ≡ join (seen E.num k (cell self.now.cells.now (q + 1) j)) (less (seen E.num k (slice_index_or row.old j None)) (E.num by k)) }
-        ensures rest { (j : ℕ) → self.now.columns ≤ j → slice_index_or row.new j None ≡ slice_index_or row.old j None }
+        ensures rest { KeptFrom None self.now.columns row.old row.new }
         ensures refused { is_ok result ≡ false → row.new ≡ row.old }
     {
         self.check_turn(row.len(), q)?;
@@ -115,7 +115,7 @@ impl<'a, E: Extent> SpanTable<'a, E> {
         ensures answer { result ≡ unless (merge_fault self.now.columns (length self.now.cells.now) (length widths.old) (length gaps.now)) tt }
         ensures settled { is_ok result ≡ true → (es : List (Noted E)) → Tabled E.count E.num self.now.columns self.now.cells.now es → (k : ℕ) → k < E.count → TameOn E.num k es gaps.now →
             SettledOn E.num E.entered k es gaps.now self.now.columns widths.new }
-        ensures rest { (j : ℕ) → self.now.columns ≤ j → slice_index_or widths.new j None ≡ slice_index_or widths.old j None }
+        ensures rest { KeptFrom None self.now.columns widths.old widths.new }
         ensures refused { is_ok result ≡ false → widths.new ≡ widths.old }
     {
         self.check_merge(widths.len(), gaps.len())?;

@@ -1,6 +1,6 @@
 ghost use Rattle.std.specs.Prelude.{◌≡◌, ℕ, ◌*◌, ◌<◌, ◌≤◌, true, false, map, length, is_ok, None, slice_index_or};
 ghost use Rattle.widths.specs.Entries.{Proper};
-ghost use Rattle.spans.specs.Tables.{Tabled, SettledOn, TameOn};
+ghost use Rattle.spans.specs.Tables.{KeptFrom, SameSize, Tabled, SettledOn, TameOn};
 ghost use Rattle.spans.specs.Refusals.{lie, all_lie, settle_fault, unless};
 
 use crate::table::{Misfit, SpanTable};
@@ -23,8 +23,7 @@ impl<'a, E: Extent> SpanTable<'a, E> {
     // Forgets what was noted and notes the entries that these stand for.
     fn note_all<R: Spanned<E>>(&mut self, entries: &[R])
         requires { (self.old.columns ≤ 32) × ((self.old.columns * 32 ≤ length self.old.cells.now) × (Proper self.old.columns (map R.Spanned.entry entries.now))) }
-        ensures columns { self.new.columns ≡ self.old.columns }
-        ensures room { length self.new.cells.now ≡ length self.old.cells.now }
+        ensures size { SameSize self.old self.new }
         ensures tabled { Tabled E.count E.num self.old.columns self.new.cells.now (map R.Spanned.entry entries.now) }
     {
         self.empty();
@@ -42,12 +41,11 @@ impl<'a, E: Extent> SpanTable<'a, E> {
         widths: &mut [Option<E>],
     ) -> Result<(), Misfit>
         ensures answer { result ≡ unless (settle_fault self.old.columns (length self.old.cells.now) (length widths.old) (length gaps.now) (map R.Spanned.entry entries.now)) tt }
-        ensures columns { self.new.columns ≡ self.old.columns }
-        ensures room { length self.new.cells.now ≡ length self.old.cells.now }
+        ensures size { SameSize self.old self.new }
         ensures tabled { is_ok result ≡ true → Tabled E.count E.num self.old.columns self.new.cells.now (map R.Spanned.entry entries.now) }
         ensures settled { is_ok result ≡ true → (k : ℕ) → k < E.count → TameOn E.num k (map R.Spanned.entry entries.now) gaps.now →
             SettledOn E.num E.entered k (map R.Spanned.entry entries.now) gaps.now self.old.columns widths.new }
-        ensures rest { (j : ℕ) → self.old.columns ≤ j → slice_index_or widths.new j None ≡ slice_index_or widths.old j None }
+        ensures rest { KeptFrom None self.old.columns widths.old widths.new }
         ensures refused { is_ok result ≡ false → (widths.new ≡ widths.old) × (self.new.cells.now ≡ self.old.cells.now) }
     {
         self.check_merge(widths.len(), gaps.len())?;

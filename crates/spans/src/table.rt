@@ -1,7 +1,7 @@
 ghost use Rattle.std.specs.Prelude.{◌≡◌, ℕ, ◌+◌, ◌*◌, ◌<◌, ◌≤◌, true, false, List, [], ◌++◌, length, is_ok, Some, None, ◌≢◌, slice_index_or};
 ghost use Rattle.widths.specs.declared.Entry.{Entry as Noted};
 ghost use Rattle.widths.specs.Merging.{seen, join};
-ghost use Rattle.spans.specs.Tables.{cell, Tabled, accepted};
+ghost use Rattle.spans.specs.Tables.{KeptFrom, SameSize, cell, Tabled, accepted};
 ghost use Rattle.spans.specs.Refusals.{table_fault, span_fault, unless};
 
 use extent::Extent;
@@ -19,7 +19,8 @@ pub enum Misfit {
 }
 
 // The widest entry over each run of columns, in lent memory: 32 cells for each column, by the first column of the run.
-// One flat slice, since a host lends what memory it has: rows of 32 would ask more of it.
+// One flat slice, since a host lends what memory it has: rows of 32 would ask more of it. Its fields are the host's too, so
+// every public call tests them, and the steps behind that test have it as a clause.
 #[derive(Drop)]
 pub struct SpanTable<'a, E: Extent> {
     pub columns: usize,
@@ -55,10 +56,9 @@ impl<'a, E: Extent> SpanTable<'a, E> {
     // Empties the cells of the columns.
     pub(crate) fn empty(&mut self)
         requires { self.old.columns * 32 ≤ length self.old.cells.now }
-        ensures columns { self.new.columns ≡ self.old.columns }
-        ensures room { length self.new.cells.now ≡ length self.old.cells.now }
+        ensures size { SameSize self.old self.new }
         ensures emptied { (p : ℕ) → p < self.old.columns * 32 → slice_index_or self.new.cells.now p None ≡ None }
-        ensures others { (p : ℕ) → self.old.columns * 32 ≤ p → slice_index_or self.new.cells.now p None ≡ slice_index_or self.old.cells.now p None }
+        ensures others { KeptFrom None (self.old.columns * 32) self.old.cells.now self.new.cells.now }
     {
         self.cells[..self.columns * 32].fill(None);
     }
@@ -66,8 +66,7 @@ impl<'a, E: Extent> SpanTable<'a, E> {
     // Joins an entry's width into its cell.
     pub(crate) fn widen(&mut self, entry: Entry<E>)
         requires { entry.first * 32 + entry.last < length self.old.cells.now }
-        ensures columns { self.new.columns ≡ self.old.columns }
-        ensures room { length self.new.cells.now ≡ length self.old.cells.now }
+        ensures size { SameSize self.old self.new }
         ensures here { (k : ℕ) → k < E.count → seen E.num k (cell self.new.cells.now entry.first entry.last) ≡ join (seen E.num k (cell self.old.cells.now entry.first entry.last)) (Some (E.num entry.width k)) }
         ensures others { (p : ℕ) → (p ≢ entry.first * 32 + entry.last) → slice_index_or self.new.cells.now p None ≡ slice_index_or self.old.cells.now p None }
     {
@@ -78,10 +77,9 @@ impl<'a, E: Extent> SpanTable<'a, E> {
     // Forgets all entries. Cells past those of the columns stay.
     pub fn clear(&mut self) -> Result<(), Misfit>
         ensures answer { result ≡ unless (table_fault self.old.columns (length self.old.cells.now)) tt }
-        ensures columns { self.new.columns ≡ self.old.columns }
-        ensures room { length self.new.cells.now ≡ length self.old.cells.now }
+        ensures size { SameSize self.old self.new }
         ensures empty { is_ok result ≡ true → Tabled E.count E.num self.old.columns self.new.cells.now [] }
-        ensures others { (p : ℕ) → self.old.columns * 32 ≤ p → slice_index_or self.new.cells.now p None ≡ slice_index_or self.old.cells.now p None }
+        ensures others { KeptFrom None (self.old.columns * 32) self.old.cells.now self.new.cells.now }
         ensures refused { is_ok result ≡ false → self.new.cells.now ≡ self.old.cells.now }
     {
         self.check()?;
@@ -92,8 +90,7 @@ impl<'a, E: Extent> SpanTable<'a, E> {
     // Takes an entry into account. No other cell than its own is written.
     pub fn note(&mut self, entry: Entry<E>) -> Result<(), Misfit>
         ensures answer { result ≡ unless (span_fault self.old.columns (length self.old.cells.now) entry.first entry.last) tt }
-        ensures columns { self.new.columns ≡ self.old.columns }
-        ensures room { length self.new.cells.now ≡ length self.old.cells.now }
+        ensures size { SameSize self.old self.new }
         ensures noted { (es : List (Noted E)) → Tabled E.count E.num self.old.columns self.old.cells.now es → Tabled E.count E.num self.old.columns self.new.cells.now (es ++ accepted result entry) }
         ensures here { is_ok result ≡ true → (k : ℕ) → k < E.count → seen E.num k (cell self.new.cells.now entry.first entry.last) ≡ join (seen E.num k (cell self.old.cells.now entry.first entry.last)) (Some (E.num entry.width k)) }
         ensures others { (p : ℕ) → (p ≢ entry.first * 32 + entry.last) → slice_index_or self.new.cells.now p None ≡ slice_index_or self.old.cells.now p None }

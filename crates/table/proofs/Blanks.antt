@@ -20,11 +20,11 @@ first-set [] y h = absurd (omega arith)
 first-set (x ∷ xs) y h = refl
 
 first_of : {X : Type 0} (xs : List X) (y d : X) → take 1 xs ≡ y ∷ [] → get_or xs 0 d ≡ y
-first_of [] y d e = let z : ◌≡◌ {A = ℕ} 0 1 = cc in absurd (omega arith)
+first_of [] y d e = cc
 first_of (x ∷ xs) y d e = cc
 
 some-first : {X : Type 0} (xs : List X) (y : X) → take 1 xs ≡ y ∷ [] → 1 ≤ length xs
-some-first [] y e = let z : ◌≡◌ {A = ℕ} 0 1 = cc in absurd (omega arith)
+some-first [] y e = cc
 some-first (x ∷ xs) y e = omega arith
 
 abbrev bare : Read

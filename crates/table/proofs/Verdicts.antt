@@ -21,11 +21,11 @@ use Rattle.rows.proofs.Rooms.{begun-at}
 
 third : (v : Option Fault) (b : Bool) (i : Option Fault) → b ≡ true → i ≡ None → v ≡ first_of (when (not b) foreign_cell ∷ i ∷ v ∷ [])
 third None true None e h = refl
-third None true (Some f) e h = let z : ◌≡◌ {A = ℕ} 0 1 = cc in absurd (omega arith)
-third None false i e h = let z : ◌≡◌ {A = ℕ} 0 1 = cc in absurd (omega arith)
+third None true (Some f) e h = cc
+third None false i e h = cc
 third (Some x) true None e h = refl
-third (Some x) true (Some f) e h = let z : ◌≡◌ {A = ℕ} 0 1 = cc in absurd (omega arith)
-third (Some x) false i e h = let z : ◌≡◌ {A = ℕ} 0 1 = cc in absurd (omega arith)
+third (Some x) true (Some f) e h = cc
+third (Some x) false i e h = cc
 
 -- with its cell open and nothing wrong with the item, put is refused as one more item is
 pub put_verdict_lem : {X : Type 0} (count : ℕ) (wide : Item → ℕ → ℤ) (meaning : List ℕ → Result X ℕ) (P : List Template) (r : Room) (g : Ledger) (c : ℕ) (a : Item)

@@ -1,3 +1,4 @@
 pub mod Promises
 pub mod Making
 pub mod Views
+pub mod Made

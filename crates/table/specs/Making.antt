@@ -1,6 +1,7 @@
 -- What a table is made of: the preamble as it is read, or what stands for it where it is refused.
 use Rattle.std.specs.Prelude.{◌≡◌, ℕ, ◌<◌, ◌≤◌, List, [], ◌∷◌, length, take, pos, Some, None, Ok, Err, Option, Result, slice_index_or}
 use Rattle.faults.specs.declared.Fault.{Fault}
+use Rattle.measure.specs.declared.measurer.Measurer.{Ghosts as Meaning}
 use Rattle.lengths.specs.declared.order.Order.TheVariants.{Points}
 use Rattle.lengths.specs.Gaps.{Parts, parts, parts_of, gap_of}
 use Rattle.ledger.specs.declared.records.Room.{Room}
@@ -24,6 +25,10 @@ start_of s = gap_of s.natural s.stretch s.order
 abbrev pub read_from : {X : Type 0} → List ℕ → (List ℕ → Result X ℕ) → Option Parts → Result Preamble Fault
 read_from text meaning None = Err out_of_range
 read_from text meaning (Some g) = preamble_of text meaning g
+
+-- .. by a measurer's meaning, with the starting gap of a host's numbers
+abbrev pub read_with : {X E : Type 0} → Meaning X E → X → List ℕ → Start → Result Preamble Fault
+read_with m x text s = read_from text (m.meaning x) (start_of s)
 
 -- the bytes read, or the fault
 abbrev pub bytes_read : Result Preamble Fault → Result ℕ Fault

@@ -10,7 +10,7 @@ use faults::{Cause, Fault};
 use measure::Measurer;
 use rows::state::LineRecord;
 
-// A gap's length is from 0 to 16,777,215.
+// A gap's length is from 0 to 16,777,215. A range of literals over a definition, as `Gap::new` has one over its own.
 fn gap_fits(sp: i64) -> bool
     ensures { result ≡ gap_fits sp }
 {

@@ -1,12 +1,13 @@
 ghost use Rattle.std.specs.Prelude.{◌≡◌, ℕ, ◌<◌, ◌≤◌, [], ◌∷◌, length, take, pos, IfOk};
 ghost use Rattle.lengths.specs.Gaps.{parts_of};
 ghost use Rattle.ledger.specs.Naturals.{wide_of, fault_in};
-ghost use Rattle.rows.specs.Good.{room_in, new_ledger};
+ghost use Rattle.rows.specs.Good.{room_in};
 ghost use Rattle.ledger.specs.declared.records.Owed.{Owed};
 ghost use Rattle.templates.specs.Readings.{read_in, empty_with};
 ghost use Rattle.templates.specs.Kept.{Widths, WidthsIn};
-ghost use Rattle.table.specs.Making.{no_gap, lines_kept, start_of, read_from, bytes_read, templates_made, gaps_made, text_made, room_made, Lying, Shaped, KeptFrom};
-ghost use Rattle.table.specs.Views.{templates_in, gaps_in, room_of, ledger_in};
+ghost use Rattle.table.specs.Made.{MadeFrom};
+ghost use Rattle.table.specs.Making.{no_gap, lines_kept, start_of, read_with, bytes_read, templates_made, gaps_made, text_made, Lying, Shaped, KeptFrom};
+ghost use Rattle.table.specs.Views.{templates_in};
 
 use crate::table::Table;
 use extent::Extent;
@@ -76,7 +77,7 @@ fn read_at<M: Measurer>(
     text: &[u8],
     templates: &mut Templates<M::Extent>,
 ) -> Result<Read, Fault>
-    ensures answer { read_in text.now templates.new result ≡ (read_from text.now (M.Measurer.meaning measurer.now) (start_of start)) }
+    ensures answer { read_in text.now templates.new result ≡ (read_with M.Measurer measurer.now text.now start) }
     ensures kept { KeptFrom text.now (start_of start) templates.new result }
     ensures widths { WidthsIn M.Extent.Extent.count M.Extent.Extent.num (wide_of M.Measurer M.Extent.Extent measurer.now) text.now templates.new result }
 {
@@ -84,7 +85,8 @@ fn read_at<M: Measurer>(
     read_preamble(measurer, gap, text, templates)
 }
 
-// What the table is made of, and the answer: beside one another, since `make` cannot fail.
+// What the table is made of, and the answer: beside one another, since `make` cannot fail. Two values of one reading, which
+// are taken apart at once.
 #[derive(Clone, Copy)]
 struct Prepared {
     read: Read,
@@ -97,10 +99,10 @@ fn prepare<M: Measurer>(
     text: &[u8],
     templates: &mut Templates<M::Extent>,
 ) -> Prepared
-    ensures made { result.made ≡ bytes_read (read_from text.now (M.Measurer.meaning measurer.now) (start_of start)) }
-    ensures shaped { Shaped text.now templates.new result.read (templates_made (read_from text.now (M.Measurer.meaning measurer.now) (start_of start))) (gaps_made (start_of start) (read_from text.now (M.Measurer.meaning measurer.now) (start_of start))) }
+    ensures made { result.made ≡ bytes_read (read_with M.Measurer measurer.now text.now start) }
+    ensures shaped { Shaped text.now templates.new result.read (templates_made (read_with M.Measurer measurer.now text.now start)) (gaps_made (start_of start) (read_with M.Measurer measurer.now text.now start)) }
     ensures widths { Widths M.Extent.Extent.count M.Extent.Extent.num (wide_of M.Measurer M.Extent.Extent measurer.now) text.now templates.new result.read }
-    ensures text { take result.read.bytes text.now ≡ text_made text.now (read_from text.now (M.Measurer.meaning measurer.now) (start_of start)) }
+    ensures text { take result.read.bytes text.now ≡ text_made text.now (read_with M.Measurer measurer.now text.now start) }
 {
     match read_at(measurer, start, text, templates) {
         Ok(read) => Prepared {
@@ -123,13 +125,7 @@ impl<'a, 'p, 'm, M: Measurer> Table<'a, 'p, 'm, M> {
         start: Start,
         text: &'p [u8],
     ) -> Table<'a, 'p, 'm, M>
-        ensures answer { result.made ≡ bytes_read (read_from text.now (M.Measurer.meaning measurer.now) (start_of start)) }
-        ensures templates { templates_in result ≡ templates_made (read_from text.now (M.Measurer.meaning measurer.now) (start_of start)) }
-        ensures gaps { gaps_in result ≡ gaps_made (start_of start) (read_from text.now (M.Measurer.meaning measurer.now) (start_of start)) }
-        ensures text { result.rows.preamble.text.now ≡ text_made text.now (read_from text.now (M.Measurer.meaning measurer.now) (start_of start)) }
-        ensures ledger { ledger_in result ≡ new_ledger }
-        ensures room { room_of result ≡ room_made (read_from text.now (M.Measurer.meaning measurer.now) (start_of start)) (room_in memory.entry) }
-        ensures measurer { result.measurer ≡ measurer.entry }
+        ensures { MadeFrom (read_with M.Measurer measurer.now text.now start) text.now (start_of start) (room_in memory.entry) measurer.entry result }
     {
         let Prepared { read, made } = prepare(measurer, start, text, templates);
         let Memory {
@@ -161,20 +157,12 @@ impl<'a, 'p, 'm, M: Measurer> Table<'a, 'p, 'm, M> {
         start: Start,
         text: &'p [u8],
     ) -> Result<Table<'a, 'p, 'm, M>, Fault>
-        ensures answer { fault_in result ≡ fault_in (read_from text.now (M.Measurer.meaning measurer.now) (start_of start)) }
-        ensures table { IfOk result (λ t. (t.made ≡ bytes_read (read_from text.now (M.Measurer.meaning measurer.now) (start_of start)))
-            × (templates_in t ≡ templates_made (read_from text.now (M.Measurer.meaning measurer.now) (start_of start)))
-            × (gaps_in t ≡ gaps_made (start_of start) (read_from text.now (M.Measurer.meaning measurer.now) (start_of start)))
-            × (t.rows.preamble.text.now ≡ text_made text.now (read_from text.now (M.Measurer.meaning measurer.now) (start_of start)))
-            × (ledger_in t ≡ new_ledger)
-            × (room_of t ≡ room_made (read_from text.now (M.Measurer.meaning measurer.now) (start_of start)) (room_in memory.entry))
-            × (t.measurer ≡ measurer.entry)) }
+        ensures answer { fault_in result ≡ fault_in (read_with M.Measurer measurer.now text.now start) }
+        ensures table { IfOk result (MadeFrom (read_with M.Measurer measurer.now text.now start) text.now (start_of start) (room_in memory.entry) measurer.entry) }
     {
         let table = Table::make(measurer, memory, templates, start, text);
-        match table.made {
-            Ok(_) => Ok(table),
-            Err(fault) => Err(fault),
-        }
+        table.made?;
+        Ok(table)
     }
 
     /// How many bytes the preamble has, or why it was refused.

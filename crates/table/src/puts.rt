@@ -18,7 +18,7 @@ use measure::{Measurer, measured};
 use rows::puts::Put;
 use rows::state::Cell;
 
-// A kern is within ±16,777,215.
+// A kern is within ±16,777,215. A range of literals over a definition, as `Gap::new` has one over its own.
 fn kern_fits(sp: i64) -> bool
     ensures { result ≡ natural_fits sp }
 {

@@ -7,8 +7,8 @@ use Rattle.spans.proofs.table.SpanTable.note_all.Goals as goal
 
 pub loop-entry-init : goal.loop-entry-init
 loop-entry-init g c = (
-  c.empty.ensures.columns,
-  c.empty.ensures.room,
+  c.empty.ensures.size.columns,
+  c.empty.ensures.size.room,
   tabled_none g.E.Extent.count g.E.Extent.num c.args.self.now.columns c.empty.new.self.cells.now c.requires.0 c.empty.ensures.emptied,
 )
 
@@ -32,7 +32,7 @@ loop-entry-preserved g c =
     let now = c.widen.new.self.cells.now in
     let pushed : Tabled m.count m.num n now (take i (map f rs) ++ e ∷ []) =
     tabled_push m.count m.num n c.loop-entry.self.cells.now now e c.requires.0 l.0 l.1 c.widen.ensures.here c.widen.ensures.others (take i (map f rs)) c.loop-entry.invariant.2 in (
-      c.widen.ensures.columns ∙ c.loop-entry.invariant.0,
-      c.widen.ensures.room ∙ c.loop-entry.invariant.1,
+      c.widen.ensures.size.columns ∙ c.loop-entry.invariant.0,
+      c.widen.ensures.size.room ∙ c.loop-entry.invariant.1,
       subst (Tabled m.count m.num n now) (ap (λ x. take i (map f rs) ++ x ∷ []) at.1 ∙ sym (take_more (map f rs) i e at.0)) pushed,
     )

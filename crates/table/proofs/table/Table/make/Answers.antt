@@ -1,4 +1,4 @@
-use Rattle.std.proofs.Common.{◌≡◌, ℕ, ◌-◌, min, length, take, ap, ◌∙◌, arith}
+use Rattle.std.proofs.Common.{◌≡◌, ℕ, ◌-◌, min, length, take, refl, ap, ◌∙◌, arith, rules}
 use Rattle.std.proofs.lemmas.List.{length-map, length-take-le}
 use Rattle.ledger.specs.declared.records.ColumnRecord.{ColumnRecord}
 use Rattle.ledger.specs.Naturals.{wide_of}
@@ -31,29 +31,32 @@ invariant_of-result g c =
           r.draft.memory c.zero.result r.draft.state n.state X.count X.num wide pe.widths;
     }
 
-pub returns-clause-templates : goal.returns-clause-templates
-returns-clause-templates g c =
+pub returns : goal.returns
+returns g c =
     let pe = c.prepare-made.ensures in
     let v = c.view-preamble.ensures in
     let n = c.new.ensures in
-    templates-are c.args.text.now c.prepare-made.new.templates c.prepare-made.result.read _ _ pe.shaped c.new.result.preamble
-    (ap (λ (x : Preamble g.row.M-Extent.Denot). x.start) n.preamble ∙ v.start) (ap (λ (x : Preamble g.row.M-Extent.Denot). x.columns.now) n.preamble ∙ v.columns)
-    (ap (λ (x : Preamble g.row.M-Extent.Denot). x.pieces.now) n.preamble ∙ v.pieces) (ap (λ (x : Preamble g.row.M-Extent.Denot). x.text.now) n.preamble ∙ v.text)
-    (ap (λ (x : Preamble g.row.M-Extent.Denot). length x.columns.now) n.preamble ∙ v.sizes.0)
-    ∙ pe.shaped.templates
-
-pub returns-clause-ledger : goal.returns-clause-ledger
-returns-clause-ledger g c =
     let r = c.new.result in
-    ap (λ (s : State g.row.M-Extent.Denot). ledger_of r.preamble s r.draft.memory) c.new.ensures.state ∙ new-ledger r.preamble r.draft.memory c.zero.result
-
-pub returns-clause-room : goal.returns-clause-room
-returns-clause-room g c =
     let p = c.prepare-made.result in
     let a = c.args.memory in
     let R = read_from c.args.text.now (g.M.Measurer.meaning c.args.measurer.now) (start_of c.args.start) in
     let k = c.lines_kept-kept.result in
     let len : length (take (k - 0) a.lines.now) ≡ lines_kept p.made (length a.lines.now) = let z : k - 0 ≡ k = omega arith in ap (λ (i : ℕ). length (take i a.lines.now)) z ∙ length-take-le k a.lines.now c.lines_kept-kept.ensures.within ∙ c.lines_kept-kept.ensures.is in
-    ap room_in c.new.ensures.memory
-    ∙ ap (λ (n : ℕ). record { items = min 16384 (length a.items.now); entries = min 8192 (length a.entries.now); lines = min 1024 n; text = min 65535 (length a.text.now) }) len
-    ∙ room-made R p.made (min 16384 (length a.items.now)) (min 8192 (length a.entries.now)) (length a.lines.now) (min 65535 (length a.text.now)) c.prepare-made.ensures.made
+    let starts = ap (λ (x : Preamble g.row.M-Extent.Denot). x.start) n.preamble ∙ v.start in
+    let columns = ap (λ (x : Preamble g.row.M-Extent.Denot). x.columns.now) n.preamble ∙ v.columns in
+    record {
+      answer = pe.made;
+      templates =
+          templates-are c.args.text.now c.prepare-made.new.templates c.prepare-made.result.read _ _ pe.shaped r.preamble starts columns
+          (ap (λ (x : Preamble g.row.M-Extent.Denot). x.pieces.now) n.preamble ∙ v.pieces) (ap (λ (x : Preamble g.row.M-Extent.Denot). x.text.now) n.preamble ∙ v.text)
+          (ap (λ (x : Preamble g.row.M-Extent.Denot). length x.columns.now) n.preamble ∙ v.sizes.0)
+          ∙ pe.shaped.templates;
+      gaps = search rules;
+      text = search rules;
+      ledger = ap (λ (s : State g.row.M-Extent.Denot). ledger_of r.preamble s r.draft.memory) n.state ∙ new-ledger r.preamble r.draft.memory c.zero.result;
+      room =
+          ap room_in n.memory
+          ∙ ap (λ (n : ℕ). record { items = min 16384 (length a.items.now); entries = min 8192 (length a.entries.now); lines = min 1024 n; text = min 65535 (length a.text.now) }) len
+          ∙ room-made R p.made (min 16384 (length a.items.now)) (min 8192 (length a.entries.now)) (length a.lines.now) (min 65535 (length a.text.now)) pe.made;
+      measurer = refl;
+    }
