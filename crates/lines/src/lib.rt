@@ -1,0 +1,2 @@
+//! Lines of a table, read from text.
+#![tactic(auto)]
