@@ -168,9 +168,13 @@ abbrev pub gap_verdict : List Template → Room → Ledger → ℤ → Option Fa
 gap_verdict P m g z = first_of (when (is_open g.hand) foreign_cell ∷ when (not (gap_fits z)) out_of_range
     ∷ when (lacking m (used_items P g) (used_entries g) (used_lines g + 1) (used_text g)) table_full ∷ [])
 
+-- no row is in hand
+abbrev pub closed_up : Ledger → Ledger
+closed_up g = record { lines = g.lines; hand = None }
+
 abbrev pub ruled_by : Line → Ledger → Ledger
 ruled_by s g = record { lines = g.lines ++ s ∷ []; hand = g.hand }
 
 -- give up drops the open row if its cell has that column and stage, and is never refused
 abbrev pub gives_up : Bool → Ledger → Ledger
-gives_up here g = cond here (record { lines = g.lines; hand = None }) g
+gives_up here g = cond here (closed_up g) g

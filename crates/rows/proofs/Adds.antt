@@ -231,6 +231,10 @@ second false c d h = cc
 pub start-sums : (a u v : ℤ) → Within 1073741823 a → Within 68719476736 u → Within 68719476736 v → Near a × Near u × Near (a +ℤ u) × Near v
 start-sums a u v h i j = ((omega (arith, ints), omega (arith, ints)), (omega (arith, ints), omega (arith, ints)), (omega (arith, ints), omega (arith, ints)), (omega (arith, ints), omega (arith, ints)))
 
+-- u, one item more and v, in a row's first cell
+pub first-sums : (a u v : ℤ) → Within 1073741823 a → Within 68719476736 u → Within 68719476736 v → Near u × Near a × Near (u +ℤ a) × Near v
+first-sums a u v h i j = ((omega (arith, ints), omega (arith, ints)), (omega (arith, ints), omega (arith, ints)), (omega (arith, ints), omega (arith, ints)), (omega (arith, ints), omega (arith, ints)))
+
 pub fresh-owed : (P : List Template) (st : Stage) (c f : ℕ) (h : Held) → fresh_in st ≡ true → owed_of P (hand_by st c f h) ≡ []
 fresh-owed P Closed c f h y = refl
 fresh-owed P Fresh c f h y = refl

@@ -2,7 +2,7 @@
 ghost use Rattle.std.specs.Prelude.{◌≡◌, ℕ, ◌≤◌, [], ℤ, Ok};
 ghost use Rattle.ledger.specs.Ledger.{Item};
 ghost use Rattle.ledger.specs.Naturals.{start_verdict};
-ghost use Rattle.ledger.specs.Calls.{take_verdict, omit_verdict, lay_verdict, tab_verdict, span_verdict, next_verdict, rule_verdict, opened, omits, on_open, lays, tabs, carries, gives_up, ruled_by, starts};
+ghost use Rattle.ledger.specs.Calls.{closed_up, take_verdict, omit_verdict, lay_verdict, tab_verdict, span_verdict, next_verdict, rule_verdict, opened, omits, on_open, lays, tabs, carries, gives_up, ruled_by, starts};
 ghost use Rattle.rows.specs.Held.{rowed, line_of};
 ghost use Rattle.rows.specs.Good.{Goes};
 ghost use Rattle.rows.specs.Answers.{unless, followed};
@@ -160,16 +160,19 @@ impl<'a, 'p, E: Extent> Rows<'a, 'p, E> {
         ensures sound { StaysSound E.count E.num self.old self.new }
         ensures stays { Stays self.old self.new }
     {
-        let state = self.draft.state;
-        state.check_closed()?;
-        self.draft.memory.check_room(Room {
-            items: state.laid.items,
-            entries: state.laid.entries,
-            lines: state.lines + 1,
-            text: state.laid.text,
-        })?;
+        self.check_rule()?;
         self.draft.add_bare(line);
         Ok(())
+    }
+
+    /// Back to what is laid, with no row in hand.
+    pub fn close(&mut self)
+        ensures ledger { ledger_at self.new ≡ closed_up (ledger_at self.old) }
+        ensures sound { StaysSound E.count E.num self.old self.new }
+        ensures stays { Stays self.old self.new }
+    {
+        self.draft.go_back();
+        self.draft.state.stage = Stage::Closed;
     }
 
     /// Gives the row up if its cell is this one.
@@ -179,8 +182,7 @@ impl<'a, 'p, E: Extent> Rows<'a, 'p, E> {
         ensures stays { Stays self.old self.new }
     {
         if self.draft.state.holds(cell) {
-            self.draft.go_back();
-            self.draft.state.stage = Stage::Closed;
+            self.close();
         }
     }
 }

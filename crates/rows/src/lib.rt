@@ -2,6 +2,7 @@
 #![tactic(auto)]
 
 mod acts;
+pub mod ahead;
 mod asks;
 mod begin;
 mod calls;

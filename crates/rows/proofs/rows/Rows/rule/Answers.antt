@@ -1,27 +1,13 @@
-use Rattle.std.proofs.Common.{true, false, [], take, sym, refl, ap, ◌∙◌, ◌≡◌, rules, Err}
+use Rattle.std.proofs.Common.{[], take, ap, ◌∙◌, refl}
 use Rattle.std.specs.List.{flat_map}
 use Rattle.ledger.specs.Calls.{entries_in}
 use Rattle.rows.specs.declared.state.State.{State}
 use Rattle.rows.specs.Held.{Held, held_of, line_of}
-use Rattle.rows.specs.Good.{templates_of, room_in, open_in}
-use Rattle.ledger.specs.Refusals.{table_full}
-use Rattle.rows.proofs.Verdicts.{refused, accepted, vacant, stopped}
-use Rattle.rows.proofs.Rooms.{rule-verdict, rule-ledger}
+use Rattle.rows.specs.Good.{open_in}
+use Rattle.rows.proofs.Rooms.{rule-ledger}
 use Rattle.rows.proofs.Adds.{same-ledger}
 use Rattle.rows.proofs.Sounds.{closed-sound, bare-entries}
 use Rattle.rows.proofs.rows.Rows.rule.Goals as goal
-
-pub returns-in_err-check_room-clause-answer : goal.returns-in_err-check_room-clause-answer
-returns-in_err-check_room-clause-answer g c =
-    let s = c.args.self.now.draft.state in
-    let m = c.args.self.now.draft.memory in
-    let q = c.args.self.now.preamble in
-    let p = q.text.now in
-    let fit = c.args.self.now.good.fit in
-    let o = vacant _ _ c.in_ok-check_closed.ensures in
-    let full = (stopped _ _ _ c.in_err-check_room.ensures).0 in
-    let answered : c.from_residual-in_err-check_room.result ≡ Err c.in_err-check_room.field-0.0 = search rules in
-    answered ∙ refused _ table_full _ tt (stopped _ _ _ c.in_err-check_room.ensures).1 (rule-verdict (templates_of q) p s.lines s.laid s.marks s.row.begin m.lines.now m.entries.now m.items.now m.text.now fit s.row.column s.row.first (room_in m) s.stage true o full)
 
 pub returns : goal.returns
 returns g c =
@@ -29,9 +15,6 @@ returns g c =
     let m = c.args.self.now.draft.memory in
     let q = c.args.self.now.preamble in
     let p = q.text.now in
-    let fit = c.args.self.now.good.fit in
-    let o = vacant _ _ c.in_ok-check_closed.ensures in
-    let full = sym (vacant _ _ c.in_ok-check_room.ensures) in
     let s' = c.add_bare.new.self.state in
     let m' = c.add_bare.new.self.memory in
     let a = c.add_bare.ensures in
@@ -39,8 +22,9 @@ returns g c =
     let e-column = ap (λ (x : State g.row.E.Denot). x.row.column) c.add_bare.ensures.state in
     let e-first = ap (λ (x : State g.row.E.Denot). x.row.first) c.add_bare.ensures.state in
     let e-stage = ap (λ (x : State g.row.E.Denot). x.stage) c.add_bare.ensures.state in
+    let o = (c.in_ok-check_rule.ensures.room refl).0 in
     record {
-      answer = accepted _ tt (rule-verdict (templates_of q) p s.lines s.laid s.marks s.row.begin m.lines.now m.entries.now m.items.now m.text.now fit s.row.column s.row.first (room_in m) s.stage false o full);
+      answer = c.in_ok-check_rule.ensures.answer;
       ledger = same-ledger s'.stage s.stage s'.row.column s.row.column s'.row.first s.row.first (held_of p s' m') e-stage e-column e-first ∙ rule-ledger s.stage s.row.column s.row.first (held_of p s m) (held_of p s' m') (line_of c.args.line []) (a.acts.held p);
       sound = λ wide sound.
           closed-sound g.E.Extent.count g.E.Extent.num wide q s s' m m' sound
