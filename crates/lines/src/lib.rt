@@ -1,2 +1,6 @@
 //! Lines of a table, read from text.
 #![tactic(auto)]
+
+mod acts;
+mod guard;
+mod steps;

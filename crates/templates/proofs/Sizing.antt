@@ -11,11 +11,8 @@ use Rattle.measure.specs.Words.{IsWord, word_byte}
 use Rattle.reader.specs.Reads.{WordWithin}
 use Rattle.ledger.specs.declared.records.ItemRecord.TheVariants.{Space, CellWord, TemplateWord, Kern, Hfil}
 use Rattle.ledger.specs.Naturals.{word_by, wide_by}
+use Rattle.ledger.proofs.Words.{within_more}
 use Rattle.templates.specs.Kept.{Sized}
-
--- a smaller bound
-within_more : (a b : ℕ) (z : ℤ) → a ≤ b → Within a z → Within b z
-within_more a b z le w = (omega (arith, ints, w.0), omega (arith, ints, w.1))
 
 module _ {E : Type 0} (count : ℕ) (num : E → ℕ → ℤ) (entered : ℕ → ℤ → ℤ) (meaning : List ℕ → Result (Metrics E) ℕ) (blank : E)
     (words : (w : List ℕ) (x : Metrics E) → IsWord w → meaning w ≡ Ok x → Bounded count num x) (spaced : Spaced count num blank)
@@ -30,21 +27,3 @@ module _ {E : Type 0} (count : ℕ) (num : E → ℕ → ℤ) (entered : ℕ →
   sized text (TemplateWord a n) b k f lt = word-sized k lt (take n (drop a text)) f.0 (meaning (take n (drop a text))) refl
   sized text (Kern z) b k f lt = within_more 16777215 1073741823 (entered k z) (omega arith) (bounded k 16777215 z lt f)
   sized text Hfil b k f lt = (omega (arith, ints), omega (arith, ints))
-
--- a word of the reader is one of a measurer
-pub word-is : (text : List ℕ) (place w n e : ℕ) → WordWithin text place w n e → IsWord (take n (drop w text))
-word-is text place w n e i =
-    let long : n ≤ length (drop w text) = simp length-drop (let a = i.upto in let b = i.inside in omega arith) in
-    let len : length (take n (drop w text)) ≡ n = length-take-le n (drop w text) long in (
-      let a = i.some in omega arith,
-      let a = i.few in omega arith,
-      All-from_get_or (λ b. word_byte b ≡ true) (take n (drop w text)) 0 (λ j lt.
-          let less : j < n = omega arith in
-          let r = i.bytes j less in
-          let same : get_or (take n (drop w text)) j 0 ≡ get_or text (w + j) 0 = get_or-take n (drop w text) j 0 less ∙ get_or-drop w text j 0 in
-          subst (λ (b : ℕ). word_byte b ≡ true) (sym same) (and_from (leb 33 (get_or text (w + j) 0)) (leb (get_or text (w + j) 0) 126) (le-leb 33 (get_or text (w + j) 0) r.0) (le-leb (get_or text (w + j) 0) 126 r.1))),
-    )
-
--- the bytes of a word as they are cut out
-pub cut-is : (text : List ℕ) (w n : ℕ) → take ((w + n) - w) (drop w text) ≡ take n (drop w text)
-cut-is text w n = let e : (w + n) - w ≡ n = omega arith in ap (λ (m : ℕ). take m (drop w text)) e

@@ -5,7 +5,8 @@ use Rattle.measure.specs.Words.{IsWord}
 use Rattle.ledger.specs.Naturals.{word_by}
 use Rattle.ledger.specs.Preambles.{refuses}
 use Rattle.templates.proofs.Moves.{refusal}
-use Rattle.templates.proofs.Sizing.{sized, word-is, cut-is}
+use Rattle.ledger.proofs.Words.{word-is, cut-is}
+use Rattle.templates.proofs.Sizing.{sized}
 use Rattle.templates.proofs.memory.Hand.add_word.Goals as goal
 
 pub overflow_add-place-in-Err : goal.overflow_add-place-in-Err
