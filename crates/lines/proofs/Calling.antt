@@ -1,5 +1,5 @@
 -- A token that is a row call. Assumes nothing.
-use Rattle.std.proofs.Common.{◌≡◌, ℕ, true, min, List, ℤ, Option, Some, None, Ok, Err, Result, Continue, Break, refl, sym, ap, ◌∙◌}
+use Rattle.std.proofs.Common.{◌≡◌, ℕ, true, min, List, length, ℤ, Option, Some, None, Ok, Err, Result, Continue, Break, refl, sym, ap, ◌∙◌, subst}
 use Rattle.std.specs.declared.ops.ControlFlow.{ControlFlow}
 use Rattle.faults.specs.declared.Fault.{Fault}
 use Rattle.ledger.specs.declared.records.Room.{Room}
@@ -8,11 +8,13 @@ use Rattle.ledger.specs.Calls.{Template, is_open}
 use Rattle.rows.specs.declared.rows.Rows.{Rows}
 use Rattle.rows.specs.declared.preamble.Preamble.{Preamble}
 use Rattle.rows.specs.Held.{held_of}
-use Rattle.rows.specs.Good.{Lens, open_in, templates_of}
+use Rattle.rows.specs.Good.{Lens, open_in, template_of, templates_of}
+use Rattle.rows.specs.Columns.{columns_in}
+use Rattle.std.proofs.lemmas.List.{length-map}
 use Rattle.rows.specs.Answers.{unless, followed}
 use Rattle.rows.specs.Views.{templates_at, room_at, ledger_at, SoundAt, Stays}
 use Rattle.lines.specs.Lines.{Outcome, goes_on, lies, refuses, moved_to, unless_at}
-use Rattle.lines.specs.Steps.{stepped_by, outcome_by, Further, Hand, Turns}
+use Rattle.lines.specs.Steps.{placed_at, stepped_by, outcome_by, Further, Hand, Turns}
 use Rattle.lines.proofs.Hands.{hand-open}
 
 -- a row call: its verdict, and the ledger where it is accepted
@@ -96,3 +98,45 @@ module _ {E : Type 0} (count : ℕ) (num : E → ℕ → ℤ) (wide : Item → �
       on-hand (Ok (Continue p)) x e = (x.0 ∙ e, x.1)
       on-hand (Ok (Break p)) x e = tt
       on-hand (Err f) x e = x ∙ e
+
+module _ {E : Type 0} (count : ℕ) (num : E → ℕ → ℤ) (wide : Item → ℕ → ℤ) (text : List ℕ) (place : ℕ) (r : Rows E) where
+  pub turns-to : (o o' : Outcome) (r' : Rows E) (s : Result (ControlFlow ℕ ℕ) Fault) → o ≡ o' → Turns count num wide text place r o r' s → Turns count num wide text place r o' r' s
+  turns-to o o' r' s e t = record { is = λ a. t.is a ∙ e; sound = t.sound; stays = t.stays; hand = t.hand; further = t.further }
+
+  -- a token that changes nothing: it is refused, or passed over
+  pub refusal-turns : (o : Outcome) (f : Fault) → refuses f ≡ o → Turns count num wide text place r o r (Err f)
+  refusal-turns o f e = record { is = λ a. e; sound = λ a. a; stays = record { preamble = refl; lens = refl }; hand = refl; further = tt }
+
+  pub idle-turns : (o : Outcome) (p : ℕ) → goes_on p (ledger_at r) ≡ o → open_in r.draft.state.stage ≡ true → Further text place (Ok (Continue p)) → Turns count num wide text place r o r (Ok (Continue p))
+  idle-turns o p e open' on = record { is = λ a. e; sound = λ a. a; stays = record { preamble = refl; lens = refl }; hand = (refl, open'); further = on }
+
+-- how many columns there are
+pub columns-length : {E : Type 0} (r : Rows E) → length (templates_at r) ≡ length (columns_in r.preamble.columns.now)
+columns-length r = length-map (columns_in r.preamble.columns.now) (template_of r.preamble)
+
+-- what a placed answer says of the call's
+pub placed-ok : (p : ℕ) (w : Result (Unit {0}) Fault) (x : Unit {0}) → Ok x ≡ placed_at p w → w ≡ Ok tt
+placed-ok p (Ok y) x e = refl
+placed-ok p (Err f) x e = cc
+
+pub placed-err : (p : ℕ) (w : Result (Unit {0}) Fault) (f : Fault) → Err f ≡ placed_at p w → (x : Fault) × (w ≡ Err x) × (f ≡ moved_to p x)
+placed-err p (Ok y) f e = cc
+placed-err p (Err x) f e = (x, refl, cc)
+
+module _ {E : Type 0} (count : ℕ) (num : E → ℕ → ℤ) (wide : Item → ℕ → ℤ) (text : List ℕ) (place at : ℕ) (r : Rows E) (v : Option Fault) (h : Ledger) (r' : Rows E) where
+  -- a call that is refused for f
+  pub refused-turns : (w : Result (Unit {0}) Fault) (f : Fault) (o : Outcome) → Called count num wide r v h r' w → Err f ≡ placed_at at w → Turns count num wide text place r (unless_at at v o) r' (Err f)
+  refused-turns (Ok x) f o d e = cc
+  refused-turns (Err x) f o d e =
+      let same : f ≡ moved_to at x = cc in
+      record {
+        is = λ s. ap refuses same ∙ no-outcome at v o x (d.answer s);
+        sound = d.sound;
+        stays = d.stays;
+        hand = ap (λ (g : Ledger). g.lines) d.ledger;
+        further = tt;
+      }
+
+  -- a call that is accepted
+  pub accepted-call : (w : Result (Unit {0}) Fault) (x : Unit {0}) → Called count num wide r v h r' w → Ok x ≡ placed_at at w → Called count num wide r v h r' (Ok tt)
+  accepted-call w x d e = subst (Called count num wide r v h r') (placed-ok at w x e) d

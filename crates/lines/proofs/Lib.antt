@@ -1,3 +1,6 @@
 pub mod Same
 pub mod Hands
 pub mod Calling
+pub mod Whole
+pub mod Crowding
+pub mod Bares

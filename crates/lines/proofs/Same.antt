@@ -1,5 +1,5 @@
 -- What has no word does not look at the meaning of words. Assumes nothing.
-use Rattle.std.proofs.Common.{◌≡◌, ℕ, List, ℤ, Ok, Err, Result, refl}
+use Rattle.std.proofs.Common.{◌≡◌, ℕ, List, ℤ, Ok, Err, Result, refl, ap}
 use Rattle.faults.specs.declared.Fault.{Fault}
 use Rattle.reader.specs.declared.tokens.Control.{Control}
 use Rattle.reader.specs.declared.tokens.Control.TheVariants as control
@@ -8,7 +8,8 @@ use Rattle.lengths.specs.Lengths.{length_at}
 use Rattle.ledger.specs.declared.records.Room.{Room}
 use Rattle.ledger.specs.Ledger.{Item, Ledger}
 use Rattle.ledger.specs.Calls.{Template}
-use Rattle.lines.specs.Lines.{Act, adds, kerns, tabs_on, spans_on, lays_row, control_act, act_step, kern_step}
+use Rattle.lines.specs.Lines.{Act, adds, kerns, tabs_on, spans_on, lays_row, control_act, act_step, kern_step, start_step, unless_at, column_of, started}
+use Rattle.ledger.specs.Naturals.{start_verdict}
 use Rattle.lines.specs.Steps.{unmeant}
 
 module _ {X : Type 0} (text : List ℕ) (meaning : List ℕ → Result X ℕ) (P : List Template) where
@@ -34,3 +35,6 @@ module _ {X : Type 0} (text : List ℕ) (meaning : List ℕ → Result X ℕ) (P
     act-same g place end tabs_on = refl
     act-same g place end spans_on = refl
     act-same g place end lays_row = refl
+
+    pub start-same : (g : Ledger) (place end : ℕ) (a : Act) → start_step text unmeant P count wide m g place end (Ok a) ≡ start_step text meaning P count wide m g place end (Ok a)
+    start-same g place end a = ap (unless_at place (start_verdict count wide P g (column_of g.hand))) (act-same (started P g) place end a)

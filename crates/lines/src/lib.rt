@@ -2,5 +2,8 @@
 #![tactic(auto)]
 
 mod acts;
+mod cells;
 mod guard;
+mod noalign;
+mod row;
 mod steps;
