@@ -1,5 +1,5 @@
 -- What \noalign holds, added to a ledger, is the line that is meant. Assumes nothing.
-use Rattle.std.proofs.Common.{◌≡◌, ℕ, Bool, true, false, cond, List, [], ℤ, pos, Ok, Err, Result, refl, ap, ◌∙◌}
+use Rattle.std.proofs.Common.{◌≡◌, ℕ, Bool, true, false, cond, List, [], ℤ, pos, Ok, Err, Result, refl}
 use Rattle.std.specs.Prelude.{int_le}
 use Rattle.faults.specs.declared.Fault.{Fault}
 use Rattle.faults.specs.declared.Cause.TheVariants as cause
@@ -9,14 +9,14 @@ use Rattle.reader.specs.Tokens.{token_at}
 use Rattle.lengths.specs.declared.length.Length.{Length}
 use Rattle.lengths.specs.Lengths.{length_at}
 use Rattle.ledger.specs.declared.records.Room.{Room}
-use Rattle.ledger.specs.Ledger.{Item, Ledger, rule, gap}
+use Rattle.ledger.specs.Ledger.{Item, Ledger, gap}
 use Rattle.ledger.specs.Calls.{Template, ruled_by}
 use Rattle.rows.specs.declared.state.LineRecord.TheVariants.{Rule, Gap}
 use Rattle.rows.specs.Held.{line_of}
 use Rattle.lines.specs.declared.noalign.Inner.{Inner}
 use Rattle.lines.specs.declared.noalign.Inner.TheVariants as inner
 use Rattle.lines.specs.declared.noalign.Bare.{Bare}
-use Rattle.lines.specs.Lines.{Piece, opens, closes, draws, skips, ends, other, piece_of, LineRead, amiss, closed_by, closed_at, gap_by, bare_by, bare_at, opened_by, opened_at}
+use Rattle.lines.specs.Lines.{Piece, opens, closes, draws, skips, ends, other, piece_of, closed_by, closed_at, gap_by, bare_by, bare_at, opened_by, opened_at}
 use Rattle.lines.specs.Bares.{piece_in, fault_amiss, open_by, open_end, close_by, close_end, gap_bare, piece_bare, lexeme_bare, closed_with, then_close, then_bare, noalign_of, line_with}
 
 module _ (text : List ℕ) (place end : ℕ) where

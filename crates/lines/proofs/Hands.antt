@@ -11,7 +11,7 @@ use Rattle.rows.specs.declared.state.Stage.{Stage}
 use Rattle.rows.specs.declared.state.Stage.TheVariants.{Closed, Fresh, Begun, Omitted}
 use Rattle.rows.specs.Held.{Held}
 use Rattle.rows.specs.Good.{hand_by, ledger_by, open_in, begun_in}
-use Rattle.lines.specs.Lines.{Lead, drops, bares, begins, lead_of, act_of, begun_step, column_of, fresh_by, hand_step}
+use Rattle.lines.specs.Lines.{drops, bares, begins, lead_of, act_of, begun_step, column_of, fresh_by, hand_step}
 
 -- whether a row in hand is begun
 abbrev pub is_begun : Option OpenRow → Bool

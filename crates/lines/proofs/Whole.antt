@@ -1,5 +1,5 @@
 -- A row from its first token to its last. Assumes nothing.
-use Rattle.std.proofs.Common.{◌≡◌, ℕ, zero, suc, ◌-◌, ◌<◌, ◌≤◌, true, List, length, ℤ, Option, None, Some, Ok, Err, Result, Continue, Break, refl, sym, ap, ◌∙◌, subst, arith}
+use Rattle.std.proofs.Common.{◌≡◌, ℕ, zero, suc, ◌-◌, ◌<◌, ◌≤◌, true, List, length, ℤ, Ok, Err, Result, Continue, Break, refl, sym, ap, ◌∙◌, subst, arith}
 use Rattle.std.specs.declared.ops.ControlFlow.{ControlFlow}
 use Rattle.faults.specs.declared.Fault.{Fault}
 use Rattle.ledger.specs.declared.records.Room.{Room}
@@ -7,11 +7,10 @@ use Rattle.ledger.specs.Ledger.{Item, Ledger}
 use Rattle.ledger.specs.Calls.{Template}
 use Rattle.rows.specs.declared.rows.Rows.{Rows}
 use Rattle.rows.specs.Good.{open_in}
-use Rattle.rows.specs.Answers.{unless, followed}
 use Rattle.rows.specs.Views.{templates_at, room_at, ledger_at, SoundAt, Stays}
 use Rattle.lines.specs.Lines.{Outcome, goes_on, lies, refuses, LineRead, onward, row_step, row_by}
-use Rattle.lines.specs.Steps.{outcome_by, line_in, Hand, Turns, Lines, Reads}
-use Rattle.lines.proofs.Calling.{stays-templates, stays-room, turns-to}
+use Rattle.lines.specs.Steps.{Turns, Lines, Reads}
+use Rattle.lines.proofs.Calling.{stays-templates, stays-room}
 
 -- one token more
 module _ {X : Type 0} (text : List ℕ) (meaning : List ℕ → Result X ℕ) (P : List Template) (count : ℕ) (wide : Item → ℕ → ℤ) (m : Room) (R : Result LineRead Fault) where
@@ -34,6 +33,9 @@ module _ {X : Type 0} (text : List ℕ) (meaning : List ℕ → Result X ℕ) (P
 
 pub stays-on : {E : Type 0} (r r' r2 : Rows E) → Stays r r' → Stays r' r2 → Stays r r2
 stays-on r r' r2 a b = record { preamble = b.preamble ∙ a.preamble; lens = b.lens ∙ a.lens }
+
+pub reads-to : {E : Type 0} (count : ℕ) (num : E → ℕ → ℤ) (wide : Item → ℕ → ℤ) (r : Rows E) (l l' : Result LineRead Fault) (r' : Rows E) (s : Result ℕ Fault) → l ≡ l' → Reads count num wide r l r' s → Reads count num wide r l' r' s
+reads-to count num wide r l l' r' s e t = record { is = λ a. t.is a ∙ e; sound = t.sound; stays = t.stays; lines = t.lines }
 
 -- what is said of the templates and the room that rows have now holds of those that they had
 module _ {E : Type 0} (r r' : Rows E) (stays : Stays r r') where

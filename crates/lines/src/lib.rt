@@ -5,5 +5,8 @@ mod acts;
 mod cells;
 mod guard;
 mod noalign;
+pub mod read;
 mod row;
 mod steps;
+
+pub use read::read_line;
