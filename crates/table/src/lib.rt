@@ -3,9 +3,10 @@
 
 pub mod asks;
 pub mod cells;
-pub mod lines;
+pub mod line;
 pub mod make;
 pub mod puts;
 pub mod row_calls;
+pub mod rules;
 pub mod table;
 pub mod work;

@@ -1,14 +1,10 @@
 -- What tokens give is fine, and no wider than a word. Assumes nothing.
-use Rattle.std.proofs.Common.{◌≡◌, ℕ, ◌+◌, ◌-◌, ◌<◌, ◌≤◌, true, leb, List, length, get_or, take, drop, ℤ, Ok, Err, Result, sym, refl, ap, ◌∙◌, subst, arith, le-leb}
+use Rattle.std.proofs.Common.{◌≡◌, ℕ, ◌<◌, List, take, drop, ℤ, Ok, Err, Result, refl, arith}
 use Rattle.std.proofs.lemmas.Int.{ints}
-use Rattle.std.proofs.lemmas.List.{length-take-le, length-drop, get_or-take, get_or-drop}
-use Rattle.std.proofs.ByRecursion.{All-from_get_or}
-use Rattle.std.proofs.lemmas.Bool.{and_from}
 use Rattle.extent.specs.Sizes.{Within}
 use Rattle.measure.specs.declared.measurer.Metrics.{Metrics}
 use Rattle.measure.specs.Bounds.{Bounded, Spaced}
-use Rattle.measure.specs.Words.{IsWord, word_byte}
-use Rattle.reader.specs.Reads.{WordWithin}
+use Rattle.measure.specs.Words.{IsWord}
 use Rattle.ledger.specs.declared.records.ItemRecord.TheVariants.{Space, CellWord, TemplateWord, Kern, Hfil}
 use Rattle.ledger.specs.Naturals.{word_by, wide_by}
 use Rattle.ledger.proofs.Words.{within_more}
