@@ -42,9 +42,10 @@ fn crowded_cell<E: Extent>(rows: &Rows<E>, place: usize, full: Fault, action: Ac
         return Cause::EntryTooWide.at(place);
     }
     if action.exceeds(rows) {
-        return Cause::EntryTooWide.at(place);
+        Cause::EntryTooWide.at(place)
+    } else {
+        full.cause.at(place)
     }
-    full.cause.at(place)
 }
 
 /// .. and so does what is wrong with the first token.

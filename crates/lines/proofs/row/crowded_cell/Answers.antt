@@ -29,12 +29,12 @@ returns-then-exceeds g c = λ wide text sound fit.
     c.at-then-exceeds.ensures ∙ crowded-is text P X.count wide (room_at r) (ledger_at r) c.args.place c.args.full (X.num c.zero.result) c.zero.ensures false (when true entry_wide) a
     (sym c.if-first_exceeds.false ∙ c.first_exceeds.ensures wide sound small) (ap (λ (b : Bool). when b entry_wide) (sym c.if-exceeds.true) ∙ c.exceeds.ensures wide text sound fit)
 
-pub returns : goal.returns
-returns g c = λ wide text sound fit.
+pub returns-else-exceeds : goal.returns-else-exceeds
+returns-else-exceeds g c = λ wide text sound fit.
     let X = g.E.Extent in
     let r = c.args.rows.now in
     let P = templates_at r in
     let a = act_in r.preamble.text.now c.args.action in
     let small : (k : ℕ) → k < X.count → Within 1073741823 (X.num c.zero.result k) = λ k kc. let e = c.zero.ensures k kc in (omega (arith, ints), omega (arith, ints)) in
-    c.at-2.ensures ∙ crowded-is text P X.count wide (room_at r) (ledger_at r) c.args.place c.args.full (X.num c.zero.result) c.zero.ensures false (when false entry_wide) a
+    c.at-else-exceeds.ensures ∙ crowded-is text P X.count wide (room_at r) (ledger_at r) c.args.place c.args.full (X.num c.zero.result) c.zero.ensures false (when false entry_wide) a
     (sym c.if-first_exceeds.false ∙ c.first_exceeds.ensures wide sound small) (ap (λ (b : Bool). when b entry_wide) (sym c.if-exceeds.false) ∙ c.exceeds.ensures wide text sound fit)

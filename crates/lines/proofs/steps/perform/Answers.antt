@@ -1,15 +1,14 @@
-use Rattle.std.proofs.Common.{Continue, Break, sym, subst, Option, ℕ}
-use Rattle.faults.specs.declared.Fault.{Fault}
+use Rattle.std.proofs.Common.{Continue, sym, subst, ℕ}
 use Rattle.ledger.specs.Ledger.{hfil}
-use Rattle.ledger.specs.Calls.{tab_verdict, span_verdict, lay_verdict}
+use Rattle.ledger.specs.Calls.{tab_verdict, span_verdict}
 use Rattle.ledger.specs.Naturals.{add_verdict}
 use Rattle.ledger.specs.Items.{meant}
 use Rattle.rows.specs.Held.{held_of}
 use Rattle.rows.specs.Views.{templates_at, room_at, ledger_at}
 use Rattle.rows.proofs.Rooms.{begun-open}
-use Rattle.lines.specs.Lines.{goes_on, lies, unless_at, with_item, tabbed, spanned, laid}
+use Rattle.lines.specs.Lines.{goes_on, unless_at, with_item, tabbed, spanned}
 use Rattle.lines.specs.Steps.{stepped_by, Turns}
-use Rattle.lines.proofs.Hands.{hand-column, lays-fine, puts-lines, puts-open, tabs-lines, tabs-open, carries-lines, carries-open}
+use Rattle.lines.proofs.Hands.{hand-column, puts-lines, puts-open, tabs-lines, tabs-open, carries-lines, carries-open}
 use Rattle.lines.proofs.Calling.{Called, step-turns, open-rows}
 use Rattle.lines.proofs.steps.perform.Goals as goal
 
@@ -63,17 +62,3 @@ returns-in-Span g c = λ wide by fit on le.
     (subst (λ (n : ℕ). Turns X.count X.num wide c.args.text.now c.args.place r (unless_at c.args.place (span_verdict P (room_at r) old n) (goes_on c.args.end (spanned P old))) c.span.new.self (stepped_by c.args.place (Continue c.args.end) c.span.result)) (sym column)
     (step-turns X.count X.num wide c.args.text.now c.args.place c.args.place r _ _ c.span.new.self (Continue c.args.end) c.span.result called
     (carries-lines P hfil old old.hand, carries-open P hfil old old.hand (open-rows r o)) (on, le)))
-
-pub returns-in-Lay : goal.returns-in-Lay
-returns-in-Lay g c = λ wide by fit on le.
-    let X = g.E.Extent in
-    let r = c.args.rows.now in
-    let s = r.draft.state in
-    let P = templates_at r in
-    let old = ledger_at r in
-    let fine = lays-fine s.row.column s.row.first (held_of r.preamble.text.now s r.draft.memory) s.stage c.requires in
-    let called : Called X.count X.num wide r (lay_verdict old s.row.column) (laid P old) c.lay.new.self c.lay.result =
-    record { answer = λ _. c.lay.ensures.answer; ledger = c.lay.ensures.ledger; sound = c.lay.ensures.sound wide; stays = c.lay.ensures.stays } in
-    rw (c.in-Lay.is, c.stepped-in-Lay.ensures)
-    (subst (λ (v : Option Fault). Turns X.count X.num wide c.args.text.now c.args.place r (unless_at c.args.place v (lies c.args.end (laid P old))) c.lay.new.self (stepped_by c.args.place (Break c.args.end) c.lay.result)) fine
-    (step-turns X.count X.num wide c.args.text.now c.args.place c.args.place r _ _ c.lay.new.self (Break c.args.end) c.lay.result called tt tt))
