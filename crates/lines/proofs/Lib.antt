@@ -4,3 +4,4 @@ pub mod Calling
 pub mod Whole
 pub mod Crowding
 pub mod Bares
+pub mod Spelled
