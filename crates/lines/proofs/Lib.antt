@@ -5,3 +5,4 @@ pub mod Whole
 pub mod Crowding
 pub mod Bares
 pub mod Spelled
+pub mod Ended

@@ -2,3 +2,4 @@ pub mod Lines
 pub mod Steps
 pub mod Bares
 pub mod Spelled
+pub mod Ended
