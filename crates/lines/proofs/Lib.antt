@@ -6,3 +6,4 @@ pub mod Crowding
 pub mod Bares
 pub mod Spelled
 pub mod Ended
+pub mod Laws

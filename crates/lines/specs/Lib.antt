@@ -3,3 +3,4 @@ pub mod Steps
 pub mod Bares
 pub mod Spelled
 pub mod Ended
+pub mod Laws
