@@ -264,9 +264,11 @@ module _ {X : Type 0} (text : List ℕ) (meaning : List ℕ → Result X ℕ) (P
           → Leads text meaning P count wide m (takes ∷ row_calls text meaning P (suc (length text)) false 0 place) g r.ledger
       unfolding Leads row_calls
       taken-leads (Some f) place l is t e = cc
-      taken-leads None place l is t e =
-          (is, subst (λ (x : Result Lexeme Fault). Leads text meaning P count wide m (token_calls text meaning P (row_calls text meaning P (length text)) false 0 place x) (opened g) r.ledger) (sym t)
-          (lexed-leads (length text) (row-leads (length text)) place g.lines r (record { column = 0; begun = false; omitted = false; first = 0; done = []; items = [] }) (Ok l) t e))
+      taken-leads None place l is t e = (
+        is,
+        subst (λ (x : Result Lexeme Fault). Leads text meaning P count wide m (token_calls text meaning P (row_calls text meaning P (length text)) false 0 place x) (opened g) r.ledger) (sym t)
+            (lexed-leads (length text) (row-leads (length text)) place g.lines r (record { column = 0; begun = false; omitted = false; first = 0; done = []; items = [] }) (Ok l) t e),
+      )
 
       first-leads : (b : Bool) (place : ℕ) (l : Lexeme) → token_at text place ≡ Ok l → line_by text meaning P count wide m b g place l ≡ Ok r
           → Leads text meaning P count wide m (first_calls text meaning P b place l.end) g r.ledger
