@@ -1,7 +1,9 @@
-//! Vectors for tokens, lengths, glue, measurers and the bytes of a list, run as tests.
+//! Vectors for tokens, lengths, glue, measurers, preambles and the bytes of a list, run as tests.
 #![tactic(auto)]
 
 #[cfg(test)]
 mod lists;
 #[cfg(test)]
 mod reading;
+#[cfg(test)]
+mod tables;
