@@ -13,36 +13,9 @@ use Rattle.ledger.specs.Ledger.{Item, Ledger, gap}
 use Rattle.ledger.specs.Calls.{Template, ruled_by}
 use Rattle.rows.specs.declared.state.LineRecord.TheVariants.{Rule, Gap}
 use Rattle.rows.specs.Held.{line_of}
-use Rattle.lines.specs.declared.noalign.Inner.{Inner}
-use Rattle.lines.specs.declared.noalign.Inner.TheVariants as inner
 use Rattle.lines.specs.declared.noalign.Bare.{Bare}
 use Rattle.lines.specs.Lines.{Piece, opens, closes, draws, skips, ends, other, piece_of, closed_by, closed_at, gap_by, bare_by, bare_at, opened_by, opened_at}
-use Rattle.lines.specs.Bares.{piece_in, fault_amiss, open_by, open_end, close_by, close_end, gap_bare, piece_bare, lexeme_bare, closed_with, then_close, then_bare, noalign_of, line_with}
-
-module _ (text : List ℕ) (place end : ℕ) where
-  pub not-open : (i : Inner) → (i ≡ inner.Open → ⊥) → Err (fault_amiss text place (piece_in i)) ≡ open_by text place end (piece_in i)
-  not-open inner.Open never = absurd (never refl)
-  not-open inner.Close never = refl
-  not-open inner.Rule never = refl
-  not-open inner.Skip never = refl
-  not-open inner.End never = refl
-  not-open inner.Other never = refl
-
-  pub not-close : (i : Inner) → (i ≡ inner.Close → ⊥) → Err (fault_amiss text place (piece_in i)) ≡ close_by text place end (piece_in i)
-  not-close inner.Open never = refl
-  not-close inner.Close never = absurd (never refl)
-  not-close inner.Rule never = refl
-  not-close inner.Skip never = refl
-  not-close inner.End never = refl
-  not-close inner.Other never = refl
-
-  pub not-bare : (i : Inner) → (i ≡ inner.Rule → ⊥) → (i ≡ inner.Skip → ⊥) → Err (fault_amiss text place (piece_in i)) ≡ piece_bare text place end (piece_in i)
-  not-bare inner.Open a b = refl
-  not-bare inner.Close a b = refl
-  not-bare inner.Rule a b = absurd (a refl)
-  not-bare inner.Skip a b = absurd (b refl)
-  not-bare inner.End a b = refl
-  not-bare inner.Other a b = refl
+use Rattle.lines.specs.Bares.{open_by, open_end, close_by, close_end, gap_bare, piece_bare, lexeme_bare, closed_with, then_close, then_bare, noalign_of, line_with}
 
 module _ {X : Type 0} (text : List ℕ) (meaning : List ℕ → Result X ℕ) (P : List Template) (count : ℕ) (wide : Item → ℕ → ℤ) (m : Room) (g : Ledger) where
   closed-piece : (b : Bare) (e : ℕ) (p : Piece) → line_with g (closed_with b (close_by text b.end e p)) ≡ closed_by text meaning P count wide m (ruled_by (line_of b.line []) g) b.end e p

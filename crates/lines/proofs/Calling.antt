@@ -103,12 +103,9 @@ module _ {E : Type 0} (count : ℕ) (num : E → ℕ → ℤ) (wide : Item → �
   pub turns-to : (o o' : Outcome) (r' : Rows E) (s : Result (ControlFlow ℕ ℕ) Fault) → o ≡ o' → Turns count num wide text place r o r' s → Turns count num wide text place r o' r' s
   turns-to o o' r' s e t = record { is = λ a. t.is a ∙ e; sound = t.sound; stays = t.stays; hand = t.hand; further = t.further }
 
-  -- a token that changes nothing: it is refused, or passed over
+  -- a token that changes nothing, and is refused
   pub refusal-turns : (o : Outcome) (f : Fault) → refuses f ≡ o → Turns count num wide text place r o r (Err f)
   refusal-turns o f e = record { is = λ a. e; sound = λ a. a; stays = record { preamble = refl; lens = refl }; hand = refl; further = tt }
-
-  pub idle-turns : (o : Outcome) (p : ℕ) → goes_on p (ledger_at r) ≡ o → open_in r.draft.state.stage ≡ true → Further text place (Ok (Continue p)) → Turns count num wide text place r o r (Ok (Continue p))
-  idle-turns o p e open' on = record { is = λ a. e; sound = λ a. a; stays = record { preamble = refl; lens = refl }; hand = (refl, open'); further = on }
 
 -- how many columns there are
 pub columns-length : {E : Type 0} (r : Rows E) → length (templates_at r) ≡ length (columns_in r.preamble.columns.now)

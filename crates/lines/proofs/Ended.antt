@@ -1,9 +1,8 @@
 -- Where a line that was read ends. Assumes nothing.
-use Rattle.std.proofs.Common.{◌≡◌, ℕ, zero, suc, ◌⊎◌, inl, inr, ◌≤◌, Bool, true, false, cond, List, length, take, drop, ℤ, pos, int_le, nat_le, Some, None, Ok, Err, Option, Result, sym, refl, ap, ◌∙◌, subst}
+use Rattle.std.proofs.Common.{◌≡◌, ℕ, zero, suc, inl, inr, Bool, true, false, cond, List, length, take, drop, ℤ, pos, int_le, nat_le, Some, None, Ok, Err, Option, Result, refl, ap, subst}
 use Rattle.faults.specs.declared.Fault.{Fault}
 use Rattle.faults.specs.declared.Cause.TheVariants as cause
 use Rattle.faults.specs.Faults.{fault_at}
-use Rattle.reader.specs.declared.tokens.Control.{Control}
 use Rattle.reader.specs.declared.tokens.Control.TheVariants as control
 use Rattle.reader.specs.declared.tokens.Lexeme.{Lexeme}
 use Rattle.reader.specs.declared.tokens.Token.{Token}
@@ -17,7 +16,7 @@ use Rattle.ledger.specs.declared.records.Room.{Room}
 use Rattle.ledger.specs.Refusals.{foreign_cell}
 use Rattle.ledger.specs.Ledger.{Item, rule, gap, OpenRow, Ledger}
 use Rattle.ledger.specs.Calls.{Template, is_open, opened, ruled_by, take_verdict, rule_verdict}
-use Rattle.lines.specs.Lines.{Act, adds, kerns, tabs_on, spans_on, lays_row, Lead, drops, bares, begins, lead_of, Outcome, goes_on, lies, refuses, LineRead, unless_at, onward, word_act, act_of, started, kern_step, act_step, begun_step, start_step, fresh_by, hand_step, lexed_step, row_by, Piece, opens, closes, draws, skips, ends, other, piece_control, piece_of, is_noalign, closed_by, closed_at, gap_by, bare_by, bare_at, opened_by, opened_at, noalign_by, first_step, line_by, line_from, some_line, line_of}
+use Rattle.lines.specs.Lines.{Act, adds, kerns, tabs_on, spans_on, lays_row, Lead, drops, bares, begins, lead_of, Outcome, goes_on, lies, refuses, LineRead, unless_at, onward, word_act, act_of, started, kern_step, act_step, begun_step, start_step, fresh_by, hand_step, lexed_step, row_by, Piece, opens, closes, draws, skips, ends, other, piece_of, is_noalign, closed_by, closed_at, gap_by, bare_by, bare_at, opened_by, opened_at, noalign_by, first_step, line_by, line_from, some_line, line_of}
 use Rattle.lines.specs.Ended.{EndsLine, EndsAt}
 
 module _ {X : Type 0} (text : List ℕ) (meaning : List ℕ → Result X ℕ) (P : List Template) where

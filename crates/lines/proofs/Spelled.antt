@@ -6,7 +6,6 @@ use Rattle.faults.specs.declared.Fault.{Fault}
 use Rattle.faults.specs.declared.Cause.TheVariants as cause
 use Rattle.faults.specs.Faults.{fault_at}
 use Rattle.std.proofs.lemmas.Bool.{and_from}
-use Rattle.reader.specs.declared.tokens.Control.{Control}
 use Rattle.reader.specs.declared.tokens.Control.TheVariants as control
 use Rattle.reader.specs.declared.tokens.Lexeme.{Lexeme}
 use Rattle.reader.specs.declared.tokens.Token.{Token}
@@ -27,8 +26,8 @@ use Rattle.ledger.specs.Calls.{Template, template_at, begun_at, fresh_at, finish
 use Rattle.ledger.specs.Refusals.{foreign_cell, table_full, out_of_range}
 use Rattle.ledger.specs.Naturals.{fault_in, item_fault, start_verdict, add_verdict, put_verdict}
 use Rattle.ledger.proofs.Words.{word-is}
-use Rattle.lines.specs.Lines.{Act, adds, kerns, tabs_on, spans_on, lays_row, Lead, drops, bares, begins, lead_of, Outcome, goes_on, lies, refuses, LineRead, moved_to, unless_at, onward, omitted, started, with_item, tabbed, spanned, laid, word_act, act_of, item_step, kern_step, act_step, begun_step, start_step, fresh_by, hand_step, lexed_step, row_step, row_by, Piece, opens, closes, draws, skips, ends, other, piece_of, is_noalign, closed_by, closed_at, gap_by, bare_by, bare_at, opened_by, opened_at, noalign_by, first_step, line_by, line_from, some_line, line_of}
-use Rattle.lines.specs.Spelled.{Call, takes, omits, starts, puts, tabs, spans, lays, rules, gaps, LeadsTo, gap_calls, piece_calls, bare_calls, brace_calls, first_calls, calls_from, act_calls, length_calls, fresh_calls, token_calls, row_calls, verdict_of, called, Leads}
+use Rattle.lines.specs.Lines.{Act, adds, kerns, tabs_on, spans_on, lays_row, Lead, drops, bares, begins, lead_of, Outcome, goes_on, LineRead, unless_at, onward, started, with_item, laid, word_act, act_of, item_step, kern_step, act_step, begun_step, start_step, fresh_by, lexed_step, row_by, Piece, opens, closes, draws, skips, ends, other, piece_of, is_noalign, closed_by, closed_at, gap_by, bare_by, bare_at, opened_by, opened_at, noalign_by, first_step, line_by, line_from, some_line, line_of}
+use Rattle.lines.specs.Spelled.{Call, takes, starts, puts, tabs, spans, gaps, LeadsTo, gap_calls, piece_calls, bare_calls, brace_calls, first_calls, calls_from, act_calls, length_calls, fresh_calls, token_calls, row_calls, verdict_of, called, Leads}
 
 same-column : (c : ℕ) → eqb c c ≡ true
 same-column c = grind (arith, nat_tests)
