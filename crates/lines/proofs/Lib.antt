@@ -7,3 +7,4 @@ pub mod Bares
 pub mod Spelled
 pub mod Ended
 pub mod Laws
+pub mod Refused
