@@ -1,3 +1,10 @@
 pub mod Cuts
 pub mod Beyonds
 pub mod Words
+pub mod Fines
+pub mod Steadies
+pub mod Lawfuls
+pub mod Accepted
+pub mod Steps
+pub mod Sized
+pub mod Templated

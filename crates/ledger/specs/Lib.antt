@@ -5,3 +5,4 @@ pub mod Calls
 pub mod Items
 pub mod Naturals
 pub mod Preambles
+pub mod Lawful

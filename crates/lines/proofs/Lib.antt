@@ -7,4 +7,5 @@ pub mod Bares
 pub mod Spelled
 pub mod Ended
 pub mod Laws
+pub mod Keeps
 pub mod Refused

@@ -61,19 +61,31 @@ within-stored : {E : Type 0} (num : E → ℕ → ℤ) (k b : ℕ) (rs : List (E
 within-stored num k b [] h = tt
 within-stored num k b (r ∷ rs) h = (h.0, within-stored num k b rs h.1)
 
--- the widths that the ledger's laid entries merge to are settled
+module _ {E : Type 0} (count : ℕ) (num : E → ℕ → ℤ) (wide : Item → ℕ → ℤ) (q : Preamble E) (s : State E) (m : Memory E) (sound : Sound count num wide q s m) (k : ℕ) (kc : k < count) where
+  -- the ledger's laid entries lie in the columns, and none is wide
+  pub sound-proper : Proper (length (columns_in q.columns.now)) (map (natural_by wide k) (laid_entries (ledger_of q s m)))
+  sound-proper =
+      let n = length (columns_in q.columns.now) in
+      subst (λ (xs : List (Sized ℤ)). Proper n xs) (sound.laid k kc) (proper-stored num k n (take s.laid.entries m.entries.now) (all_laid (Lies n) s.laid.entries m.entries.now sound.lies))
+
+  pub sound-within : AllByRecursion (λ e. Within 1073741823 e.width) (map (natural_by wide k) (laid_entries (ledger_of q s m)))
+  sound-within = subst (λ (xs : List (Sized ℤ)). AllByRecursion (λ e. Within 1073741823 e.width) xs) (sound.laid k kc)
+      (within-stored num k 1073741823 (take s.laid.entries m.entries.now) (all_laid (λ (r : EntryRecord E). Within 1073741823 (num r.entry.width k)) s.laid.entries m.entries.now (λ t d lt. sound.sized k t d kc lt)))
+
+-- whatever are the widths that the ledger's laid entries merge to are settled
+pub sound-settles_to : {E : Type 0} (count : ℕ) (num : E → ℕ → ℤ) (wide : Item → ℕ → ℤ) (q : Preamble E) (s : State E) (m : Memory E) → Sound count num wide q s m → length (columns_in q.columns.now) ≤ 32
+    → (start : ℤ) (g : ℕ → ℤ) → Within 16777215 start → ((j : ℕ) → Within 16777215 (g j)) → (k : ℕ) → k < count
+    → (w : ℕ → Option ℤ) → ((j : ℕ) → j < length (columns_in q.columns.now) → w j ≡ width (widest (map (natural_by wide k) (laid_entries (ledger_of q s m)))) g j)
+    → Settled (map (natural_by wide k) (laid_entries (ledger_of q s m))) start g (length (columns_in q.columns.now)) w
+sound-settles_to count num wide q s m sound few start g a b k kc w same =
+    merging_settles (map (natural_by wide k) (laid_entries (ledger_of q s m))) start g (length (columns_in q.columns.now)) w few
+    (sound-proper count num wide q s m sound k kc)
+    (record { entries = sound-within count num wide q s m sound k kc; starting = a; gaps = b })
+    same
+
+-- .. so those widths are
 pub sound-settles : {E : Type 0} (count : ℕ) (num : E → ℕ → ℤ) (wide : Item → ℕ → ℤ) (q : Preamble E) (s : State E) (m : Memory E) → Sound count num wide q s m → length (columns_in q.columns.now) ≤ 32
     → (start : ℤ) (g : ℕ → ℤ) → Within 16777215 start → ((j : ℕ) → Within 16777215 (g j)) → (k : ℕ) → k < count
     → Settled (map (natural_by wide k) (laid_entries (ledger_of q s m))) start g (length (columns_in q.columns.now)) (width (widest (map (natural_by wide k) (laid_entries (ledger_of q s m)))) g)
-sound-settles {E} count num wide q s m sound few start g a b k kc =
-    let n = length (columns_in q.columns.now) in
-    let rs = take s.laid.entries m.entries.now in
-    let es = map (stored_by num k) rs in
-    subst (λ (xs : List (Sized ℤ)). Settled xs start g n (width (widest xs) g)) (sound.laid k kc)
-    (merging_settles es start g n (width (widest es) g) few (proper-stored num k n rs (all_laid (Lies n) s.laid.entries m.entries.now sound.lies))
-    (record {
-      entries = within-stored num k 1073741823 rs (all_laid (λ (r : EntryRecord E). Within 1073741823 (num r.entry.width k)) s.laid.entries m.entries.now (λ t d lt. sound.sized k t d kc lt));
-      starting = a;
-      gaps = b;
-    })
-    (λ j lt. refl))
+sound-settles count num wide q s m sound few start g a b k kc =
+    sound-settles_to count num wide q s m sound few start g a b k kc (width (widest (map (natural_by wide k) (laid_entries (ledger_of q s m)))) g) (λ j lt. refl)

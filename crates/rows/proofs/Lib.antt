@@ -8,3 +8,4 @@ pub mod Lays
 pub mod Sounds
 pub mod Asking
 pub mod News
+pub mod Renamed

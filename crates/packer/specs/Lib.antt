@@ -1,0 +1,9 @@
+pub mod Looks
+pub mod Boxes
+pub mod Lines
+pub mod Settings
+pub mod Views
+pub mod Laws
+pub mod Walks
+pub mod Counted
+pub mod Writes

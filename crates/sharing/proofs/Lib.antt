@@ -1,0 +1,13 @@
+pub mod Rules
+pub mod Sums
+pub mod Growing
+pub mod Sizes
+pub mod Voids
+pub mod Orders
+pub mod Aims
+pub mod Meeting
+pub mod Turns
+pub mod Placing
+pub mod Answering
+pub mod Reaches
+pub mod SetReaches
