@@ -3,6 +3,7 @@
 
 #[cfg(test)]
 mod lists;
+pub mod marked;
 #[cfg(test)]
 mod reading;
 #[cfg(test)]

@@ -4,7 +4,7 @@ ghost use Rattle.std.specs.Prelude.{◌≡◌, MatchResult};
 ghost use Rattle.perform.specs.declared.answer.Answer.TheVariants as answer;
 
 use crate::answer::Answer;
-use crate::script::{Beginning, Call, Ending, Item};
+use crate::script::{Beginning, Ending, Item, TableCall};
 use extent::Extent;
 use faults::Fault;
 use measure::Measurer;
@@ -15,7 +15,7 @@ use table::work::Workspace;
 // What a call answers, and the cell then in hand.
 pub struct Reply<E> {
     pub hand: Option<InHand>,
-    pub answer: Answer<E>,
+    pub answer: Answer<'static, E>,
 }
 
 // Of a call that takes the cell in hand and gives the next.
@@ -86,7 +86,7 @@ fn kept<E>(cell: Begun, outcome: Result<(), Fault>) -> Reply<E> {
 }
 
 // Of an ask.
-fn asked<E>(outcome: Result<Option<E>, Fault>) -> Answer<E>
+fn asked<E>(outcome: Result<Option<E>, Fault>) -> Answer<'static, E>
     ensures { MatchResult outcome (λ w. result ≡ answer.Width w) (λ f. result ≡ answer.Refused f) }
 {
     match outcome {
@@ -96,7 +96,7 @@ fn asked<E>(outcome: Result<Option<E>, Fault>) -> Answer<E>
 }
 
 // Of a line.
-fn line_read<E>(outcome: Result<Option<usize>, Fault>) -> Answer<E>
+fn line_read<E>(outcome: Result<Option<usize>, Fault>) -> Answer<'static, E>
     ensures { MatchResult outcome (λ n. result ≡ answer.Read n) (λ f. result ≡ answer.Refused f) }
 {
     match outcome {
@@ -177,27 +177,27 @@ pub(crate) fn make<M: Measurer>(
     table: &mut Table<M>,
     work: &mut Workspace<M::Extent>,
     hand: Option<InHand>,
-    call: Call,
+    call: TableCall,
 ) -> Reply<M::Extent> {
     match call {
-        Call::Take => take(table, hand),
-        Call::Begin(how) => begin(table, hand, how),
-        Call::Put(item) => put(table, hand, item),
-        Call::End(how) => end(table, hand, how),
-        Call::GiveUp => give_up(table, hand),
-        Call::Rule => Reply {
+        TableCall::Take => take(table, hand),
+        TableCall::Begin(how) => begin(table, hand, how),
+        TableCall::Put(item) => put(table, hand, item),
+        TableCall::End(how) => end(table, hand, how),
+        TableCall::GiveUp => give_up(table, hand),
+        TableCall::Rule => Reply {
             hand,
             answer: table.rule().into(),
         },
-        Call::Gap(sp) => Reply {
+        TableCall::Gap(sp) => Reply {
             hand,
             answer: table.gap(sp).into(),
         },
-        Call::Line(text) => Reply {
+        TableCall::Line(text) => Reply {
             hand,
             answer: line_read(table.line(text.as_slice())),
         },
-        Call::Ask(column) => Reply {
+        TableCall::Ask(column) => Reply {
             hand,
             answer: asked(table.ask(column, work)),
         },

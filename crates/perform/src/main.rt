@@ -3,6 +3,7 @@
 
 mod answer;
 mod calls;
+mod lists;
 mod run;
 mod script;
 mod settings;

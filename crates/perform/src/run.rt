@@ -1,7 +1,8 @@
 //! A script from its first line on: settings up to the preamble, then calls.
 use crate::answer::{Answer, print};
 use crate::calls::{Reply, make};
-use crate::script::{Call, Command, is_passed_over};
+use crate::lists::Lists;
+use crate::script::{Call, Command, ListCall, is_passed_over};
 use crate::settings::{Chosen, Settings};
 use crate::stop::Stop;
 use crate::words::Unread;
@@ -28,6 +29,7 @@ struct Opening<'s> {
 struct Lent<E> {
     templates: Templates<E>,
     work: Workspace<E>,
+    lists: Lists,
 }
 
 // What a line says, or nothing where it cannot be read.
@@ -72,6 +74,7 @@ fn open(rt: &HostRuntime, settings: Settings, opening: Opening<'_>) -> Result<()
             let mut lent = Lent::<Plain> {
                 templates: Templates::new(),
                 work: Workspace::new(),
+                lists: Lists::new(rt.alloc()),
             };
             perform(rt, &measurer, &mut lent, settings, opening)
         }
@@ -79,6 +82,7 @@ fn open(rt: &HostRuntime, settings: Settings, opening: Opening<'_>) -> Result<()
             let mut lent = Lent::<Twin> {
                 templates: Templates::new(),
                 work: Workspace::new(),
+                lists: Lists::new(rt.alloc()),
             };
             perform(rt, &measurer, &mut lent, settings, opening)
         }
@@ -119,7 +123,7 @@ fn perform<M: Measurer>(
             let bytes = table.made().unwrap_or(0);
             let columns = table.columns();
             print::<M::Extent>(rt, line, Answer::Made { bytes, columns })?;
-            call_all(rt, &mut table, &mut lent.work, rest)
+            call_all(rt, &mut table, &mut lent.work, &mut lent.lists, rest)
         }
         Err(fault) => {
             print::<M::Extent>(rt, line, Answer::Refused(fault))?;
@@ -138,26 +142,40 @@ fn read_call(rt: &HostRuntime, line: &[u8]) -> Result<Option<Call>, Stop> {
     }
 }
 
+// Makes a line's call on the list, and answers it.
+fn call_list<M: Measurer>(
+    rt: &HostRuntime,
+    table: &Table<M>,
+    work: &mut Workspace<M::Extent>,
+    lists: &mut Lists,
+    line: &[u8],
+    call: ListCall,
+) -> Result<(), Stop> {
+    let answer = lists.make(rt.alloc(), table, work, call)?;
+    print(rt, line, answer)
+}
+
 // Makes the calls of the lines behind the preamble. A row in hand at the end is given up.
 fn call_all<M: Measurer>(
     rt: &HostRuntime,
     table: &mut Table<M>,
     work: &mut Workspace<M::Extent>,
+    lists: &mut Lists,
     lines: &[&[u8]],
 ) -> Result<(), Stop> {
     let mut hand: Option<InHand> = None;
     let mut outcome = Ok(());
     for line in lines.iter().copied().filter(|line| !is_passed_over(line)) {
-        let answer = match read_call(rt, line) {
-            Ok(Some(call)) => {
+        outcome = match read_call(rt, line) {
+            Ok(Some(Call::Table(call))) => {
                 let Reply { hand: next, answer } = make(table, work, hand, call);
                 hand = next;
-                Ok(answer)
+                print(rt, line, answer)
             }
-            Ok(None) => Ok(Answer::BadInput),
+            Ok(Some(Call::List(call))) => call_list(rt, table, work, lists, line, call),
+            Ok(None) => print::<M::Extent>(rt, line, Answer::BadInput),
             Err(stop) => Err(stop),
         };
-        outcome = answer.and_then(|answer| Ok(print(rt, line, answer)?));
         if outcome.is_err() {
             break;
         }

@@ -1,8 +1,17 @@
 //! What a line of the script says.
-use crate::words::{Unread, count, hex, number, words};
+ghost use Rattle.std.specs.Prelude.{◌≤◌, IfOk};
+
+use crate::words::{Unread, count, hex, number, ordinal, words};
 use ledger::records::Room;
+use sharing::Aim;
 use std::alloc::Global;
 use table::make;
+
+// As many boxes as the largest table can have.
+const MOST_RECORDS: usize = 17_408;
+
+// More bytes than its list can take.
+const MOST_BYTES: usize = 1_048_576;
 
 // The numbers of a monospaced measurer.
 #[derive(Clone, Copy)]
@@ -51,7 +60,7 @@ pub enum Ending {
 
 // A call of the table.
 #[derive(Drop)]
-pub enum Call {
+pub enum TableCall {
     Take,
     Begin(Beginning),
     Put(Item),
@@ -61,6 +70,31 @@ pub enum Call {
     Gap(i64),
     Line(Vec<u8>),
     Ask(usize),
+}
+
+// What a table is set to: a side, a width, and how many records are lent.
+#[derive(Clone, Copy)]
+pub struct Request {
+    pub side: usize,
+    pub aim: Aim,
+    pub records: usize,
+}
+
+// A call on the list of a table that is set.
+#[derive(Clone, Copy)]
+pub enum ListCall {
+    Set(Request),
+    // how many bytes are lent
+    Write(usize),
+    // the number of a box
+    Fetch(usize),
+}
+
+// What is called behind the preamble.
+#[derive(Drop)]
+pub enum Call {
+    Table(TableCall),
+    List(ListCall),
 }
 
 #[derive(Drop)]
@@ -124,26 +158,64 @@ impl Setting {
     }
 }
 
+impl TableCall {
+    fn read(heap: Global, words: &[&[u8]]) -> Result<TableCall, Unread> {
+        match words {
+            [b"take"] => Ok(TableCall::Take),
+            [b"omit"] => Ok(TableCall::Begin(Beginning::Omit)),
+            [b"start"] => Ok(TableCall::Begin(Beginning::Start)),
+            [b"word-hex", digits] => Ok(TableCall::Put(Item::Word(hex(heap, digits)?))),
+            [b"space"] => Ok(TableCall::Put(Item::Space)),
+            [b"kern", sp] => Ok(TableCall::Put(Item::Kern(number(sp)?))),
+            [b"hfil"] => Ok(TableCall::Put(Item::Hfil)),
+            [b"tab"] => Ok(TableCall::End(Ending::Tab)),
+            [b"span"] => Ok(TableCall::End(Ending::Span)),
+            [b"lay"] => Ok(TableCall::End(Ending::Lay)),
+            [b"giveup"] => Ok(TableCall::GiveUp),
+            [b"rule"] => Ok(TableCall::Rule),
+            [b"gap", sp] => Ok(TableCall::Gap(number(sp)?)),
+            [b"line-hex", digits] => Ok(TableCall::Line(hex(heap, digits)?)),
+            [b"ask", column] => Ok(TableCall::Ask(ordinal(column)?)),
+            _ => Err(Unread::BadInput),
+        }
+    }
+}
+
+// How much a host lends of what it says, at most as much as is of use.
+fn lent(word: &[u8], most: usize) -> Result<usize, Unread>
+    ensures { IfOk result (λ n. n ≤ most) }
+{
+    Ok(count(word)?.min(most))
+}
+
+// A width that is asked for, or the natural one.
+fn aim(word: &[u8]) -> Result<Aim, Unread> {
+    match word {
+        b"natural" => Ok(Aim::Natural),
+        width => Ok(Aim::To(number(width)?)),
+    }
+}
+
+impl ListCall {
+    fn read(words: &[&[u8]]) -> Result<ListCall, Unread> {
+        match words {
+            [b"set", side, width, records] => Ok(ListCall::Set(Request {
+                side: ordinal(side)?,
+                aim: aim(width)?,
+                records: lent(records, MOST_RECORDS)?,
+            })),
+            [b"write", bytes] => Ok(ListCall::Write(lent(bytes, MOST_BYTES)?)),
+            [b"fetch", number] => Ok(ListCall::Fetch(ordinal(number)?)),
+            _ => Err(Unread::BadInput),
+        }
+    }
+}
+
 impl Call {
     fn read(heap: Global, words: &[&[u8]]) -> Result<Call, Unread> {
         match words {
-            [b"take"] => Ok(Call::Take),
-            [b"omit"] => Ok(Call::Begin(Beginning::Omit)),
-            [b"start"] => Ok(Call::Begin(Beginning::Start)),
-            [b"word-hex", digits] => Ok(Call::Put(Item::Word(hex(heap, digits)?))),
-            [b"space"] => Ok(Call::Put(Item::Space)),
-            [b"kern", sp] => Ok(Call::Put(Item::Kern(number(sp)?))),
-            [b"hfil"] => Ok(Call::Put(Item::Hfil)),
-            [b"tab"] => Ok(Call::End(Ending::Tab)),
-            [b"span"] => Ok(Call::End(Ending::Span)),
-            [b"lay"] => Ok(Call::End(Ending::Lay)),
-            [b"giveup"] => Ok(Call::GiveUp),
-            [b"rule"] => Ok(Call::Rule),
-            [b"gap", sp] => Ok(Call::Gap(number(sp)?)),
-            [b"line-hex", digits] => Ok(Call::Line(hex(heap, digits)?)),
-            // there is no column below zero, as there is none above the last
-            [b"ask", column] => Ok(Call::Ask(usize::try_from(number(column)?).unwrap_or(0))),
-            _ => Err(Unread::BadInput),
+            [b"set" | b"write" | b"fetch", ..] => Ok(Call::List(ListCall::read(words)?)),
+            _ => Ok(Call::Table(TableCall::read(heap, words)?)),
         }
     }
 }
@@ -156,10 +228,12 @@ impl Command {
             return Ok(Command::Preamble(Vec::from_slice(heap, text)?));
         }
         if let Some(word) = line.strip_prefix(b"word ") {
-            return Ok(Command::Call(Call::Put(Item::Word(Vec::from_slice(heap, word)?))));
+            let word = Item::Word(Vec::from_slice(heap, word)?);
+            return Ok(Command::Call(Call::Table(TableCall::Put(word))));
         }
         if let Some(text) = line.strip_prefix(b"line ") {
-            return Ok(Command::Call(Call::Line(Vec::from_slice(heap, text)?)));
+            let line = TableCall::Line(Vec::from_slice(heap, text)?);
+            return Ok(Command::Call(Call::Table(line)));
         }
         let words = words(heap, line)?;
         match words.as_slice() {

@@ -46,6 +46,11 @@ pub(crate) fn count(word: &[u8]) -> Result<usize, Unread> {
     usize::try_from(number(word)?).map_err(|_| Unread::BadInput)
 }
 
+// The number of one among things that are counted from 1. A number below zero is as good as zero: there is none of either.
+pub(crate) fn ordinal(word: &[u8]) -> Result<usize, Unread> {
+    Ok(usize::try_from(number(word)?).unwrap_or(0))
+}
+
 // Two digits for each byte.
 pub(crate) fn hex(heap: Global, digits: &[u8]) -> Result<Vec<u8>, Unread> {
     Ok(hex::decode(heap, digits)?)

@@ -3,3 +3,11 @@ pub mod Askings
 pub mod Handings
 pub mod Blanks
 pub mod Shapes
+pub mod Sides
+pub mod Settings
+pub mod Drawn
+pub mod Bytes
+pub mod Words
+pub mod Writing
+pub mod Lawful
+pub mod Keeps

@@ -9,6 +9,7 @@ use Rattle.ledger.specs.declared.records.ColumnRecord.{ColumnRecord}
 use Rattle.ledger.specs.Ledger.{Item, Ledger}
 use Rattle.ledger.specs.Calls.{Template, laid_entries}
 use Rattle.ledger.specs.Naturals.{wide_of, natural_by}
+use Rattle.ledger.specs.Lawful.{FineTemplates, Lawful}
 use Rattle.rows.specs.declared.preamble.Preamble.{Preamble}
 use Rattle.rows.specs.Columns.{columns_in as templates_on}
 use Rattle.rows.specs.Views.{templates_at, room_at, ledger_at}
@@ -65,6 +66,19 @@ ByMeaning {s = s} t = Sound s.count s.num (wide_in t) t.rows.preamble t.rows.dra
 
 pub by_meaning : {X E : Type 0} {m : Meaning X E} {s : Sides E} (t : Table X E m s) → ByMeaning t
 by_meaning t = t.meant
+
+-- its templates are fine, and what holds of every ledger holds of its ledger: so it is of every table
+abbrev pub IsFitting : {X E : Type 0} {m : Meaning X E} {s : Sides E} → Table X E m s → Type 0
+IsFitting {m = m} t = FineTemplates (m.meaning t.measurer.now) (templates_in t)
+
+pub fitting_of : {X E : Type 0} {m : Meaning X E} {s : Sides E} (t : Table X E m s) → IsFitting t
+fitting_of t = t.fitting
+
+abbrev pub IsLawful : {X E : Type 0} {m : Meaning X E} {s : Sides E} → Table X E m s → Type 0
+IsLawful {m = m} {s = s} t = Lawful (m.meaning t.measurer.now) s.count (wide_in t) (templates_in t) (ledger_in t)
+
+pub lawful_of : {X E : Type 0} {m : Meaning X E} {s : Sides E} (t : Table X E m s) → IsLawful t
+lawful_of t = t.lawful
 
 -- the laid entries with their natural widths on side k
 abbrev pub laid_in : {X E : Type 0} {m : Meaning X E} {s : Sides E} → Table X E m s → ℕ → List (Sized ℤ)

@@ -1,4 +1,4 @@
-ghost use Rattle.std.specs.Prelude.{◌≡◌, ℕ, ◌+◌, ◌<◌, ◌≤◌, not, length, take, pos, slice_index_or};
+ghost use Rattle.std.specs.Prelude.{◌≡◌, ℕ, ◌+◌, ◌<◌, ◌≤◌, not, length, take, pos, None, slice_index_or};
 ghost use Rattle.extent.specs.Sizes.{Within};
 ghost use Rattle.widths.specs.Merging.{width, seen};
 ghost use Rattle.widths.specs.Entries.{widest};
@@ -17,7 +17,7 @@ use measure::Measurer;
 use rows::preamble::Preamble;
 
 // The natural lengths of the starting gap and of the gaps after the columns.
-fn naturals<E: Copy>(preamble: &Preamble<E>, lengths: &mut [i64])
+pub(crate) fn naturals<E: Copy>(preamble: &Preamble<E>, lengths: &mut [i64])
     requires { length preamble.now.columns.now < length lengths.old }
     ensures { take (length preamble.now.columns.now + 1) lengths.new ≡ lengths_of preamble.now }
 {
@@ -36,6 +36,22 @@ fn has(columns: usize, column: usize) -> bool
 }
 
 impl<'a, 'p, 'm, M: Measurer> Table<'a, 'p, 'm, M> {
+    // The widths of all columns, over all entries laid.
+    pub(crate) fn all_widths(
+        &self,
+        gaps: &[i64],
+        cells: &mut [Option<M::Extent>],
+        widths: &mut [Option<M::Extent>],
+    )
+        requires room { (1024 ≤ length cells.old) × ((32 ≤ length widths.old) × (columns_in self.now < length gaps.now)) }
+        ensures merged { ((j : ℕ) → Within 16777215 (slice_index_or gaps.now j (pos 0)))
+            → (k j : ℕ) → k < M.Extent.Extent.count → j < columns_in self.now → seen M.Extent.Extent.num k (slice_index_or widths.new j None) ≡ width (widest (laid_in self.now k)) (after M.Extent.Extent.entered k gaps.now) j }
+        ensures same { length widths.new ≡ length widths.old }
+    {
+        // it is refused nothing: the memory has room, and all entries lie in the columns
+        let _ = self.rows.settle(gaps, cells, widths);
+    }
+
     // The width of one column, over all entries laid.
     fn width_at(
         &self,
@@ -49,8 +65,7 @@ impl<'a, 'p, 'm, M: Measurer> Table<'a, 'p, 'm, M> {
         ensures merged { ((j : ℕ) → Within 16777215 (slice_index_or gaps.now j (pos 0)))
             → (k : ℕ) → k < M.Extent.Extent.count → seen M.Extent.Extent.num k result ≡ width (widest (laid_in self.now k)) (after M.Extent.Extent.entered k gaps.now) index }
     {
-        // it is refused nothing: the memory has room, and all entries lie in the columns
-        let _ = self.rows.settle(gaps, cells, widths);
+        self.all_widths(gaps, cells, widths);
         widths[index]
     }
 

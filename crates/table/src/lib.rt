@@ -8,5 +8,7 @@ pub mod make;
 pub mod puts;
 pub mod row_calls;
 pub mod rules;
+pub mod set;
 pub mod table;
+pub mod texts;
 pub mod work;

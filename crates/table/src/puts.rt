@@ -4,6 +4,7 @@ ghost use Rattle.ledger.specs.Ledger.{cell_word, space, kern, hfil};
 ghost use Rattle.ledger.specs.Items.{meant};
 ghost use Rattle.ledger.specs.Calls.{on_open, puts};
 ghost use Rattle.ledger.specs.Naturals.{add_verdict, put_verdict};
+ghost use Rattle.ledger.specs.Lawful.{fine};
 ghost use Rattle.rows.specs.Good.{begun_in};
 ghost use Rattle.rows.specs.Answers.{unless, followed};
 ghost use Rattle.table.specs.Promises.{Fitting};
@@ -29,6 +30,7 @@ impl<'a, 'p, 'm, M: Measurer> Table<'a, 'p, 'm, M> {
     // Adds a measured item to the begun cell.
     fn add(&mut self, put: Put<M::Extent>) -> Result<(), Fault>
         requires begun { begun_in self.old.rows.draft.state.stage ≡ true }
+        requires fine { fine (M.Measurer.meaning self.old.measurer.now) (meant self.old.rows.preamble.text.now put.item put.word.now) ≡ true }
         requires fits { Fitting M.Extent.Extent.count M.Extent.Extent.num (wide_in self.old) put.width (meant self.old.rows.preamble.text.now put.item put.word.now) }
         ensures answer { result ≡ unless (add_verdict M.Extent.Extent.count (wide_in self.old) (templates_in self.old) (room_of self.old) (ledger_in self.old) (meant self.old.rows.preamble.text.now put.entry.item put.entry.word.now)) tt }
         ensures ledger { ledger_in self.new ≡ followed result (ledger_in self.old) (on_open (puts (meant self.old.rows.preamble.text.now put.entry.item put.entry.word.now) (ledger_in self.old)) (ledger_in self.old) (ledger_in self.old).hand) }

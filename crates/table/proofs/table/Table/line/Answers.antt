@@ -1,21 +1,19 @@
-use Rattle.std.proofs.Common.{ℕ, Option, Result, sym, subst}
-use Rattle.faults.specs.declared.Fault.{Fault}
-use Rattle.ledger.specs.Ledger.{Ledger}
-use Rattle.rows.specs.Views.{ledger_at}
-use Rattle.lines.specs.Lines.{bytes_read, line_of}
-use Rattle.lines.specs.Laws.{ReadsLine}
-use Rattle.lines.proofs.Laws.{reads-line}
-use Rattle.table.specs.Views.{templates_in, room_of, ledger_in, wide_in}
+use Rattle.ledger.proofs.Sized.{fine-sized}
+use Rattle.table.proofs.Keeps.{line-read, after-line}
 use Rattle.table.proofs.table.Table.line.Goals as goal
 
 pub returns-clause-law : goal.returns-clause-law
 returns-clause-law g c =
     let t = c.args.self.now in
-    let text = c.args.text.now in
-    let meaning = g.M.Measurer.meaning t.measurer.now in
-    let count = g.M.Extent.Extent.count in
-    let g0 = ledger_in t in
-    let o = line_of text meaning (templates_in t) count (wide_in t) (room_of t) g0 in
-    subst (λ (x : Result (Option ℕ) Fault). ReadsLine text meaning (templates_in t) count (wide_in t) (room_of t) g0 (ledger_at c.read_line.new.rows) x) (sym (c.read_line.ensures.answer t.meant))
-    (subst (λ (x : Ledger). ReadsLine text meaning (templates_in t) count (wide_in t) (room_of t) g0 x (bytes_read o)) (sym (c.read_line.ensures.ledger t.meant))
-    (reads-line text meaning (templates_in t) count (wide_in t) (room_of t) g0))
+    line-read t c.read_line.new.rows c.args.text.now c.read_line.result (c.read_line.ensures.answer t.meant) (c.read_line.ensures.ledger t.meant)
+
+pub invariant_of-self : goal.invariant_of-self
+invariant_of-self g c =
+    let t = c.args.self.now in
+    let x = t.measurer.now in
+    let X = g.M.Extent.Extent in
+    let e = c.read_line.ensures in
+    let r = c.read_line.new.rows in
+    let k = after-line t (fine-sized X.count X.num X.entered (g.M.Measurer.meaning x) (g.M.Measurer.blank x) (λ w y. g.met.M.Measurer.bounded x w y) (g.met.M.Measurer.spaced x) g.met.M.Extent.Extent.bounded) r e.stays (e.sound t.meant) c.args.text.now c.read_line.result
+    (line-read t r c.args.text.now c.read_line.result (e.answer t.meant) (e.ledger t.meant)) in
+    record { few = k.few; meant = k.meant; fitting = k.fitting; lawful = k.lawful }

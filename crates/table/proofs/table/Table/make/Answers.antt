@@ -1,12 +1,15 @@
-use Rattle.std.proofs.Common.{◌≡◌, ℕ, ◌-◌, min, length, take, refl, ap, ◌∙◌, arith, rules}
+use Rattle.std.proofs.Common.{◌≡◌, ℕ, ◌-◌, min, length, take, sym, refl, ap, subst, ◌∙◌, arith, rules}
 use Rattle.std.proofs.lemmas.List.{length-map, length-take-le}
 use Rattle.ledger.specs.declared.records.ColumnRecord.{ColumnRecord}
 use Rattle.ledger.specs.Naturals.{wide_of}
 use Rattle.rows.specs.declared.state.State.{State}
 use Rattle.rows.specs.declared.preamble.Preamble.{Preamble}
-use Rattle.rows.specs.Good.{room_in, ledger_of}
+use Rattle.ledger.specs.Lawful.{FineTemplates, Lawful}
+use Rattle.ledger.proofs.Lawfuls.{lawful-new}
+use Rattle.rows.specs.Good.{room_in, templates_of, ledger_of}
 use Rattle.rows.proofs.News.{new-ledger}
 use Rattle.table.specs.Making.{start_of, read_from, lines_kept}
+use Rattle.table.proofs.Keeps.{made-fine}
 use Rattle.table.proofs.Shapes.{templates-are, starts-sound, room-made}
 use Rattle.table.proofs.table.Table.make.Goals as goal
 
@@ -21,6 +24,15 @@ invariant_of-result g c =
     let P = λ (x : Preamble g.row.M-Extent.Denot). x in
     let few = pe.shaped.lying.few in
     let columns = ap (λ (x : Preamble g.row.M-Extent.Denot). length x.columns.now) n.preamble ∙ v.sizes.0 in
+    let meaning = g.M.Measurer.meaning c.args.measurer.now in
+    let new = ap (λ (s : State g.row.M-Extent.Denot). ledger_of r.preamble s r.draft.memory) n.state ∙ new-ledger r.preamble r.draft.memory c.zero.result in
+    let are =
+    templates-are c.args.text.now c.prepare-made.new.templates c.prepare-made.result.read _ _ pe.shaped r.preamble
+    (ap (λ (x : Preamble g.row.M-Extent.Denot). x.start) n.preamble ∙ v.start) (ap (λ (x : Preamble g.row.M-Extent.Denot). x.columns.now) n.preamble ∙ v.columns)
+    (ap (λ (x : Preamble g.row.M-Extent.Denot). x.pieces.now) n.preamble ∙ v.pieces) (ap (λ (x : Preamble g.row.M-Extent.Denot). x.text.now) n.preamble ∙ v.text)
+    (ap (λ (x : Preamble g.row.M-Extent.Denot). length x.columns.now) n.preamble ∙ v.sizes.0)
+    ∙ pe.shaped.templates in
+    let fit : FineTemplates meaning (templates_of r.preamble) = subst (FineTemplates meaning) (sym are) (made-fine c.args.text.now meaning (start_of c.args.start)) in
     let long = length-map r.preamble.columns.now (λ (x : ColumnRecord g.row.M-Extent.Denot). x.template) in
     record {
       few = omega arith;
@@ -29,6 +41,8 @@ invariant_of-result g c =
           (ap (λ (x : Preamble g.row.M-Extent.Denot). x.pieces.now) n.preamble ∙ v.pieces) (ap (λ (x : Preamble g.row.M-Extent.Denot). x.text.now) n.preamble ∙ v.text)
           (ap (λ (x : Preamble g.row.M-Extent.Denot). length x.columns.now) n.preamble ∙ v.sizes.0)
           r.draft.memory c.zero.result r.draft.state n.state X.count X.num wide pe.widths;
+      fitting = fit;
+      lawful = subst (Lawful meaning X.count wide (templates_of r.preamble)) (sym new) (lawful-new meaning X.count wide (templates_of r.preamble));
     }
 
 pub returns : goal.returns

@@ -20,6 +20,9 @@ add-requires-clause-fits g c = λ k kc.
     let fits : natural_fits z ≡ true = ap natural_fits (sym whole) ∙ sym c.kern_fits.ensures ∙ c.if-not-kern_fits.false in
     (c.enter-width.ensures k kc, subst (Within 1073741823) (sym (c.enter-width.ensures k kc)) (g.met.M.Extent.Extent.bounded k 1073741823 (to_z w64 (of_z w64 z)) kc (subst (Within 1073741823) (sym whole) (kern-within z fits))))
 
+pub add-requires-clause-fine : goal.add-requires-clause-fine
+add-requires-clause-fine g c = sym c.kern_fits.ensures ∙ c.if-not-kern_fits.false
+
 pub returns-clause-answer : goal.returns-clause-answer
 returns-clause-answer g c =
     let t = c.args.self.now in

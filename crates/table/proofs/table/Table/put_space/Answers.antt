@@ -5,6 +5,9 @@ use Rattle.table.specs.Views.{wide_in}
 use Rattle.table.proofs.Verdicts.{put-answer}
 use Rattle.table.proofs.table.Table.put_space.Goals as goal
 
+pub add-requires-clause-fine : goal.add-requires-clause-fine
+add-requires-clause-fine g c = refl
+
 pub returns-clause-answer : goal.returns-clause-answer
 returns-clause-answer g c =
     let t = c.args.self.now in

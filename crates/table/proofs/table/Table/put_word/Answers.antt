@@ -1,10 +1,14 @@
 use Rattle.std.proofs.Common.{sym, ap}
+use Rattle.std.specs.Result.{is_ok}
 use Rattle.ledger.specs.Ledger.{cell_word}
 use Rattle.ledger.specs.Naturals.{fault_in}
 use Rattle.rows.proofs.Verdicts.{passed}
 use Rattle.table.specs.Views.{wide_in}
 use Rattle.table.proofs.Verdicts.{put-answer}
 use Rattle.table.proofs.table.Table.put_word.Goals as goal
+
+pub add-requires-clause-fine : goal.add-requires-clause-fine
+add-requires-clause-fine g c = ap is_ok (sym c.in_ok-metrics.ensures.answer)
 
 pub returns-clause-answer : goal.returns-clause-answer
 returns-clause-answer g c =

@@ -1,0 +1,27 @@
+use Rattle.std.proofs.Common.{◌≡◌, ℕ, suc, ◌-◌, ◌<◌, ◌≤◌, leb, List, Result, sym, ◌∙◌, subst, arith}
+use Rattle.std.proofs.lemmas.Bool.{and_parts, leb-true}
+use Rattle.faults.specs.declared.Fault.{Fault}
+use Rattle.boxlist.specs.declared.BoxRecord.{BoxRecord}
+use Rattle.packer.specs.declared.Laid.{Laid}
+use Rattle.packer.specs.Settings.{set_records}
+use Rattle.table.specs.Setting.{set_at}
+use Rattle.table.specs.Sets.{Sets}
+use Rattle.table.proofs.Lawful.{set-law}
+use Rattle.table.proofs.table.Table.set.Goals as goal
+
+pub returns-clause-law : goal.returns-clause-law
+returns-clause-law g c =
+    let t = c.args.self.now in
+    let a = c.args.aim in
+    let side = c.args.side in
+    let X = g.met.M.Extent.Extent in
+    let W = g.met.M.Measurer in
+    let parts = and_parts (leb 1 side) (leb side g.M.Extent.Extent.count) (sym c.has_side.ensures ∙ c.if-not-has_side.false) in
+    let some : 1 ≤ side = leb-true 1 side parts.0 in
+    let few : side ≤ g.M.Extent.Extent.count = leb-true side g.M.Extent.Extent.count parts.1 in
+    let kc : side - 1 < g.M.Extent.Extent.count = omega arith in
+    let same : suc (side - 1) ≡ side = omega arith in
+    let law = set-law t (side - 1) kc (X.nothing (side - 1) kc) (W.bounded t.measurer.now) (W.spaced t.measurer.now) (λ b z h. X.bounded (side - 1) b z kc h) (λ z h. X.upward (side - 1) z kc h) a c.args.records.now in
+    subst (λ (x : ℕ). Sets t x a c.set_on.new.records c.set_on.result) same
+    (subst (λ (rs : List BoxRecord). Sets t (suc (side - 1)) a rs c.set_on.result) (sym c.set_on.ensures.records)
+    (subst (λ (r : Result Laid Fault). Sets t (suc (side - 1)) a (set_records (set_at t (side - 1) a) c.args.records.now) r) (sym c.set_on.ensures.answer) law))
