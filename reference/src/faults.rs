@@ -25,9 +25,13 @@ pub enum Cause {
     EntryTooWide,
     RowInHand,
     Full(Filled),
+    CannotSet,
     NoSuchColumn,
+    NoSuchSide,
+    TooLittleRoom,
     OutOfRange,
     MeasurerRange,
+    BadBox,
     NoCharacter,
 }
 
@@ -45,16 +49,20 @@ impl Cause {
             Cause::EntryTooWide => 10,
             Cause::RowInHand => 21,
             Cause::Full(_) => 22,
-            Cause::NoSuchColumn => 24,
+            Cause::CannotSet => 23,
+            Cause::NoSuchColumn | Cause::NoSuchSide => 24,
+            Cause::TooLittleRoom => 26,
             Cause::OutOfRange | Cause::MeasurerRange => 27,
+            Cause::BadBox => 28,
             Cause::NoCharacter => 41,
         }
     }
 
-    /// 1 reader, 2 alignment, 4 measurer. (3, the packer, has no call in a script.)
+    /// 1 reader, 2 alignment, 3 packer, 4 measurer.
     pub fn layer(self) -> u32 {
         match self {
             Cause::BadByte | Cause::UnknownControl | Cause::BadLength | Cause::WordLength => 1,
+            Cause::CannotSet | Cause::NoSuchSide | Cause::TooLittleRoom | Cause::BadBox => 3,
             Cause::MeasurerRange | Cause::NoCharacter => 4,
             _ => 2,
         }

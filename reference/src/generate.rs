@@ -6,10 +6,12 @@ use crate::measure::WIDEST_PITCH;
 use crate::preamble::read_preamble;
 use crate::random::Rng;
 use crate::row_texts::{self, RowLook};
-use crate::script::{Answer, Session};
+use crate::script::{Answer, Session, MOST_RECORDS};
 use crate::spelling::hex;
 use crate::table::{Stage, K, LARGEST};
 use crate::texts::{self, Look, Parts};
+
+mod sets;
 
 #[derive(Clone, Copy, Debug, PartialEq, Eq)]
 pub enum Kind {
@@ -17,6 +19,8 @@ pub enum Kind {
     Script,
     /// The same, with many lines read from text.
     Lines,
+    /// Mostly rows, and how they are set.
+    Sets,
     /// What `Script` has, with lines spelled in ways on which the documentation is silent (README.md).
     Edges,
 }
@@ -26,6 +30,7 @@ impl Kind {
         match name {
             "script" => Some(Kind::Script),
             "lines" => Some(Kind::Lines),
+            "sets" => Some(Kind::Sets),
             "edges" => Some(Kind::Edges),
             _ => None,
         }
@@ -63,6 +68,18 @@ const THEMES: [(Theme, usize); 12] = [
     (Theme::Largest, 4),
 ];
 
+/// Of themes, those that bring a table to set.
+const THEMES_TO_SET: [(Theme, usize); 8] = [
+    (Theme::Plain, 500),
+    (Theme::Spans, 300),
+    (Theme::FewItems, 30),
+    (Theme::FewEntries, 20),
+    (Theme::FewLines, 30),
+    (Theme::Limits, 100),
+    (Theme::Chaos, 18),
+    (Theme::Largest, 2),
+];
+
 /// One generated script; the same seed gives the same.
 pub fn script(kind: Kind, seed: u64) -> Vec<u8> {
     let mut writer = Writer::new(kind, seed);
@@ -92,13 +109,16 @@ struct Writer {
     spans: usize,
     most_puts: usize,
     puts_left: usize,
+    /// How many boxes may still be shown.
+    shown_left: usize,
 }
 
 impl Writer {
     fn new(kind: Kind, seed: u64) -> Writer {
         let mut rng = Rng::new(seed);
-        let weights: Vec<usize> = THEMES.iter().map(|(_, weight)| *weight).collect();
-        let theme = THEMES.get(rng.weighted(&weights)).map_or(Theme::Plain, |(theme, _)| *theme);
+        let themes: &[(Theme, usize)] = if kind == Kind::Sets { &THEMES_TO_SET } else { &THEMES };
+        let weights: Vec<usize> = themes.iter().map(|(_, weight)| *weight).collect();
+        let theme = themes.get(rng.weighted(&weights)).map_or(Theme::Plain, |(theme, _)| *theme);
         let steps = steps(&mut rng);
         let noise = match theme {
             Theme::Chaos => 100,
@@ -128,6 +148,7 @@ impl Writer {
             spans,
             most_puts,
             puts_left: 0,
+            shown_left: if theme == Theme::Largest { 2 * MOST_RECORDS } else { sets::SHOWN },
         }
     }
 
@@ -202,6 +223,9 @@ impl Writer {
                 _ => self.any_call(),
             }
         }
+        if self.rng.percent(2) {
+            self.any_set_call();
+        }
         self.edge_perhaps();
     }
 
@@ -257,14 +281,18 @@ impl Writer {
     }
 
     fn mono(&mut self) -> [i64; 4] {
+        if self.kind == Kind::Sets {
+            return self.mono_to_set();
+        }
         let any = self.rng.from_to(0, WIDEST_PITCH);
         let pitch = match self.theme {
             Theme::Limits => self.rng.pick(WIDEST_PITCH, &[WIDEST_PITCH, WIDEST_PITCH - 1, 0, any]),
             Theme::Largest => self.rng.pick(0, &[1, 10]),
             _ => self.rng.pick(10, &[10, 10, 10, 0, 1, 7, 100, 65_536, WIDEST_PITCH, any]),
         };
-        let height = self.rng.pick(7, &[0, G, 100]);
-        let depth = self.rng.pick(2, &[0, G, 100]);
+        let tall = self.rng.from_to(0, G);
+        let height = self.rng.pick(7, &[0, G, 100, tall]);
+        let depth = self.rng.pick(2, &[0, G, 100, tall / 3]);
         let low = self.rng.pick(32, &[33, 34, 47, 57]);
         let last = self.rng.pick(126, &[126, 126, 126, 126, 125, 122, 97, 90, 64, low]);
         [pitch, height, depth, last]
@@ -283,11 +311,9 @@ impl Writer {
     }
 
     fn start_gap(&mut self) {
-        if self.rng.percent(35) {
-            let natural = self.rng.pick(0, &[5, -5, 65_536, G, -G]);
-            let stretch = self.rng.pick(0, &[1, 65_536, G]);
-            let order = self.rng.pick(0, &[1, 2, 3]);
-            let mut three = [natural, stretch, order];
+        let to_set = self.kind == Kind::Sets;
+        if self.rng.percent(if to_set { 65 } else { 35 }) {
+            let mut three = if to_set { self.start_gap_to_set() } else { self.any_start_gap() };
             if self.rng.percent(5) {
                 let bad = [self.rng.pick(G + 1, &[-G - 1]), self.rng.pick(-1, &[G + 1]), self.rng.pick(-1, &[4, 9])];
                 let place = self.rng.below(3);
@@ -298,6 +324,12 @@ impl Writer {
             let [natural, stretch, order] = three;
             self.say(format!("gap0 {natural} {stretch} {order}"));
         }
+    }
+
+    fn any_start_gap(&mut self) -> [i64; 3] {
+        let natural = self.rng.pick(0, &[5, -5, 65_536, G, -G]);
+        let stretch = self.rng.pick(0, &[1, 65_536, G]);
+        [natural, stretch, self.rng.pick(0, &[1, 2, 3])]
     }
 
     fn preamble(&mut self) {
@@ -357,11 +389,14 @@ impl Writer {
             _ => self.rng.pick(Parts::Usual, &[Parts::Usual; 19]),
         };
         let parts = if self.rng.percent(2) { Parts::Full } else { parts };
+        let to_set = self.kind == Kind::Sets;
         Look {
             columns,
             items: self.rng.pick(0, &[1, 2, 3, 5]),
             last: self.last_byte(),
-            tabskips: self.rng.pick(0, &[10, 30]),
+            tabskips: if to_set { self.rng.pick(20, &[50, 0, 80]) } else { self.rng.pick(0, &[10, 30]) },
+            stretches: if to_set { 80 } else { 45 },
+            fills: if to_set { self.rng.pick(12, &[40, 80]) } else { 12 },
             newlines: self.rng.percent(20),
             parts,
         }
@@ -389,6 +424,7 @@ impl Writer {
             } else {
                 self.sensible();
             }
+            self.sets_perhaps();
             self.edge_perhaps();
         }
     }
@@ -405,6 +441,10 @@ impl Writer {
         let weights = if self.refused() { [25, 15, 15, 45] } else { [82, 5, 5, 8] };
         if self.kind == Kind::Lines && self.rng.percent(75) {
             self.lines();
+            return;
+        }
+        if self.kind == Kind::Sets && self.rng.percent(40) {
+            self.line_to_set();
             return;
         }
         match self.rng.weighted(&weights) {
@@ -448,6 +488,7 @@ impl Writer {
 
     fn put(&mut self) {
         let weights = match self.theme {
+            _ if self.kind == Kind::Sets => [50, 14, 10, 26],
             Theme::LittleText => [85, 5, 5, 5],
             Theme::Limits => [30, 55, 10, 5],
             _ => [50, 20, 18, 12],
@@ -546,11 +587,13 @@ impl Writer {
             self.lay_the_row();
         }
         let columns = self.columns();
-        if columns > 0 && self.rng.percent(95) {
+        let all = if self.kind == Kind::Sets { 20 } else { 95 };
+        if columns > 0 && self.rng.percent(all) {
             for column in 1..=columns {
                 self.say(format!("ask {column}"));
             }
         }
+        self.sets_at_the_end();
         self.edge_perhaps();
         if self.rng.percent(10) {
             self.out.pop();
@@ -584,7 +627,7 @@ impl Writer {
     }
 
     fn any_call(&mut self) {
-        match self.rng.weighted(&[14, 6, 14, 10, 5, 6, 4, 9, 7, 11, 2, 4, 4, 4]) {
+        match self.rng.weighted(&[14, 6, 14, 10, 5, 6, 4, 9, 7, 11, 2, 4, 4, 4, 4]) {
             0 => self.say("take"),
             1 => self.say("omit"),
             2 => self.say("start"),
@@ -598,7 +641,8 @@ impl Writer {
             10 => self.say("giveup"),
             11 => self.say("rule"),
             12 => self.gap(),
-            _ => self.ask(),
+            13 => self.ask(),
+            _ => self.any_set_call(),
         }
     }
 
@@ -615,14 +659,17 @@ impl Writer {
     }
 
     fn bad_input(&mut self) {
-        let lines: [&[u8]; 47] = [
+        let lines: [&[u8]; 67] = [
             b"foo", b"Take", b"TAKE", b"takes", b"take 1", b"omit x", b"start 0", b"lay lay", b"giveup 1", b"rule 1", b"space a",
             b"hfil 2", b"tab 1", b"span 1", b"kern", b"kern x", b"kern 1 2", b"kern +1", b"kern --1", b"kern -",
             b"kern 1234567890123456789", b"kern -1234567890123456789", b"kern 1.5", b"kern 1pt", b"gap", b"gap 1.5",
             b"gap 1 2", b"gap 0000000000000000001", b"ask", b"ask one", b"ask 1 2", b"ask 0x1", b"word-hex 4", b"word-hex 4G",
             b"word-hex 414", b"measurer", b"measurer mono 1 2 3", b"measurer mono 1 2 3 99 5",
             b"measurer twin 1 2 3 99 1 2 3", b"measurer stereo 1 2 3 99", b"room 1 2 3", b"room 1 2 3 4 5", b"gap0 0 0",
-            b"preamble-hex 2", b"take\r", b"\ttake", b"\xff\x00\xfe",
+            b"preamble-hex 2", b"take\r", b"\ttake", b"\xff\x00\xfe", b"set", b"set 1", b"set 1 natural",
+            b"set natural 1 5", b"set 1 Natural 5", b"set 1 natural -1", b"set 1 5 -1", b"set 1 5 5 5", b"set 1.5 natural 5",
+            b"set x natural 5", b"set 1 naturally 5", b"set 1 natural 1234567890123456789", b"set 1 -1234567890123456789 5",
+            b"write", b"write -1", b"write 1 2", b"write x", b"fetch", b"fetch 1 2", b"fetch one",
         ];
         let line = self.rng.pick(b"=> ok".as_slice(), &lines);
         if self.rng.percent(25) {
@@ -668,10 +715,13 @@ impl Writer {
             return;
         }
         let lines = [
-            "  take", "take ", "start  ", " lay", "kern  5", "  kern   5  ", "ask  1 ", "word", "  word a", " word  a",
-            "word-hex", "word-hex ", "word-hex 4a", "word-hex 41 42", "word-hex  41", "preamble", "preamble-hex",
-            "preamble-hex ", "preamble-hex 235c6372", "preamble  #\\cr", "  preamble #\\cr", "room -1 5 5 5", "room  9 9 9 9",
-            " ;take", "measurer  mono 1 1 1 126", "measurer mono  1 1 1 126 ", "gap0  0 0 0",
+            "  take", "take ", "start  ", " lay", "kern  5", "  kern   5  ", "ask  1 ", "word", "  word a",
+            " word  a", "word-hex", "word-hex ", "word-hex 4a", "word-hex 41 42", "word-hex  41", "preamble",
+            "preamble-hex", "set  1  natural  17408 ", "set 1 natural -0", "set 01 natural 17408",
+            "set 1 000000000000000000 5", " write 01", "write -0", "fetch  1 ", "fetch 000000000000000001",
+            "fetch -0", "set -0 natural 0", "preamble-hex ", "preamble-hex 235c6372", "preamble  #\\cr",
+            "  preamble #\\cr", "room -1 5 5 5", "room  9 9 9 9", " ;take", "measurer  mono 1 1 1 126",
+            "measurer mono  1 1 1 126 ", "gap0  0 0 0",
         ];
         let line = self.rng.pick("tab ", &lines);
         self.say(line);
@@ -694,6 +744,21 @@ impl Writer {
         }
         if self.refused() && self.rng.percent(15) {
             self.ask();
+        }
+    }
+
+    /// A row that is well formed, a rule, a gap, or a row that makes the table very wide or hardly wide enough.
+    fn line_to_set(&mut self) {
+        let look = self.row_look();
+        let limits = if self.theme == Theme::Limits { 20 } else { 2 };
+        match self.rng.weighted(&[75, 10, 10, limits]) {
+            0 => {
+                let text = row_texts::row(&mut self.rng, &look);
+                self.say_text("line", &text);
+            }
+            1 => self.say("rule"),
+            2 => self.gap(),
+            _ => self.row_that_brings_n_to_a_limit(),
         }
     }
 
@@ -722,7 +787,11 @@ impl Writer {
         let mut items = self.look();
         items.columns = self.columns().max(1);
         items.parts = Parts::Usual;
-        RowLook { items, spans: self.spans, omits: self.omits }
+        let voids = match self.kind {
+            Kind::Sets => self.ends.iter().map(|end| !end).collect(),
+            _ => vec![],
+        };
+        RowLook { items, voids, spans: self.spans, omits: self.omits }
     }
 
     fn short_text(&mut self) -> Vec<u8> {
@@ -934,6 +1003,7 @@ mod tests {
             assert_eq!(script(Kind::Script, seed), script(Kind::Script, seed));
             assert_eq!(script(Kind::Edges, seed), script(Kind::Edges, seed));
             assert_eq!(script(Kind::Lines, seed), script(Kind::Lines, seed));
+            assert_eq!(script(Kind::Sets, seed), script(Kind::Sets, seed));
         }
         assert_ne!(script(Kind::Script, 1), script(Kind::Script, 2));
     }
@@ -944,6 +1014,7 @@ mod tests {
             crate::script::perform(&script(Kind::Script, seed));
             crate::script::perform(&script(Kind::Edges, seed));
             crate::script::perform(&script(Kind::Lines, seed));
+            crate::script::perform(&script(Kind::Sets, seed));
         }
     }
 }

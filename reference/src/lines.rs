@@ -5,8 +5,8 @@
 //! nothing else has changed by then.
 
 use crate::faults::{Cause, Fault};
+use crate::items::Item;
 use crate::lengths::length_at;
-use crate::preamble::Item;
 use crate::reading::{spaces_end, token_at, Control, Lexeme, Token};
 use crate::table::{Cell, Stage, Table};
 
@@ -94,12 +94,11 @@ impl RowReader<'_> {
         let Lexeme { token, end } = token_at(self.text, at)?;
         self.place = end;
         let fresh = self.cell.stage == Stage::Fresh;
-        let bare = |width| Item { width, text: 0 };
         match token {
             Token::Space if fresh => {}
-            Token::Space => self.put(at, bare(self.table.measurer.space()))?,
+            Token::Space => self.put(at, Item::blank(self.table.measurer.space()))?,
             Token::Word { place, len } => self.word(at, place, len)?,
-            Token::Control(Control::Hfil) => self.put(at, bare(self.table.measurer.entered(0)))?,
+            Token::Control(Control::Hfil) => self.put(at, Item::fill(self.table.measurer.entered(0)))?,
             Token::Control(Control::Kern) => self.kern(at)?,
             Token::Control(Control::Omit) if fresh => {
                 self.taken(at)?;
@@ -128,7 +127,7 @@ impl RowReader<'_> {
     fn word(&mut self, at: usize, place: usize, len: usize) -> Result<(), Fault> {
         let bytes = self.text.get(place..place + len).unwrap_or(&[]);
         let width = self.table.measurer.word(bytes).map_err(|missing| Cause::NoCharacter.at(place + missing))?;
-        self.put(at, Item { width, text: len })
+        self.put(at, Item::cell_word(width, bytes))
     }
 
     /// At \kern stands what the cell's beginning and the row's give; the length comes behind it.
@@ -139,7 +138,7 @@ impl RowReader<'_> {
         let (length, end) = length_at(self.text, number)?;
         self.place = end;
         let width = self.table.measurer.entered(length);
-        self.put(number, Item { width, text: 0 })
+        self.put(number, Item::blank(width))
     }
 
     /// 10 for start and for the item, then 22 for the item and for the row; these two are told apart by nothing.

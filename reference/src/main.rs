@@ -3,7 +3,7 @@ use std::io::{self, Read, Write};
 use std::process::ExitCode;
 
 const USAGE: &str = "usage: reference perform < SCRIPT
-       reference generate KIND SEED          (KIND: script, lines or edges)
+       reference generate KIND SEED          (KIND: script, lines, sets or edges)
        reference compare PROGRAM COUNT SEED [KIND]";
 
 fn main() -> ExitCode {

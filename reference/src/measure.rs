@@ -69,6 +69,11 @@ impl Measurer {
         self.monos().iter().map(|mono| mono.width(word)).collect()
     }
 
+    /// Of any word on a side; nothing on a side that there is not.
+    pub fn height_and_depth(&self, side: usize) -> (i64, i64) {
+        self.monos().get(side).map_or((0, 0), |mono| (mono.height, mono.depth))
+    }
+
     pub fn space(&self) -> Extent {
         self.monos().iter().map(|mono| mono.pitch).collect()
     }

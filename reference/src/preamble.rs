@@ -1,26 +1,13 @@
 //! The preamble (docs/FORMAT.md, 'A preamble'; docs/FAULTS.md, 'Make').
 
 use crate::faults::{Cause, Fault, Filled};
+use crate::items::Item;
 use crate::lengths::{glue_at, length_at, Gap};
-use crate::measure::{Extent, Measurer};
+use crate::measure::Measurer;
 use crate::reading::{token_at, Control, Lexeme, Token};
 
 pub const MOST_COLUMNS: usize = 32;
 pub const MOST_PART_ITEMS: usize = 64;
-
-/// An item as it counts for widths and room.
-#[derive(Clone, Debug, PartialEq, Eq)]
-pub struct Item {
-    pub width: Extent,
-    /// Text bytes of the table that it takes; none for what a template brings.
-    pub text: usize,
-}
-
-impl Item {
-    pub fn bare(width: Extent) -> Item {
-        Item { width, text: 0 }
-    }
-}
 
 /// One column: its parts u and v, and the gap that follows it.
 #[derive(Clone, Debug, PartialEq, Eq)]
@@ -32,8 +19,8 @@ pub struct Column {
 
 #[derive(Clone, Debug, PartialEq, Eq)]
 pub struct Preamble {
-    /// The bytes read.
-    pub bytes: usize,
+    /// The bytes read: the preamble text.
+    pub text: Vec<u8>,
     /// Gap 0, before the first column.
     pub start: Gap,
     pub columns: Vec<Column>,
@@ -79,7 +66,8 @@ pub fn read_preamble(text: &[u8], measurer: &Measurer, start: [i64; 3]) -> Resul
     let mut reader =
         Reader { text, measurer, place: 0, gap: start, template: Template::default(), columns: vec![] };
     while !reader.step()? {}
-    Ok(Preamble { bytes: reader.place, start, columns: reader.columns })
+    let text = text.get(..reader.place).unwrap_or(&[]).to_vec();
+    Ok(Preamble { text, start, columns: reader.columns })
 }
 
 impl Reader<'_> {
@@ -91,10 +79,10 @@ impl Reader<'_> {
         match token {
             Token::End => return Err(Cause::TextOver.at(self.text.len())),
             Token::Space if self.template.untouched() => {}
-            Token::Space => self.template.add(Item::bare(self.measurer.space()), at)?,
+            Token::Space => self.template.add(Item::blank(self.measurer.space()), at)?,
             Token::Word { place, len } => self.word(at, place, len)?,
             Token::Control(Control::Kern) => self.kern()?,
-            Token::Control(Control::Hfil) => self.template.add(Item::bare(self.measurer.entered(0)), at)?,
+            Token::Control(Control::Hfil) => self.template.add(Item::fill(self.measurer.entered(0)), at)?,
             Token::Control(Control::Tabskip) => self.tabskip()?,
             Token::Control(Control::Cr) => {
                 self.end_template(at)?;
@@ -115,7 +103,7 @@ impl Reader<'_> {
     fn word(&mut self, at: usize, place: usize, len: usize) -> Result<(), Fault> {
         let bytes = self.text.get(place..place + len).unwrap_or(&[]);
         match self.measurer.word(bytes) {
-            Ok(width) => self.template.add(Item::bare(width), at),
+            Ok(width) => self.template.add(Item::template_word(width, place, len), at),
             Err(missing) => Err(Cause::NoCharacter.at(place + missing)),
         }
     }
@@ -124,7 +112,7 @@ impl Reader<'_> {
         let at = self.place;
         let (length, end) = length_at(self.text, at)?;
         self.place = end;
-        self.template.add(Item::bare(self.measurer.entered(length)), at)
+        self.template.add(Item::blank(self.measurer.entered(length)), at)
     }
 
     fn tabskip(&mut self) -> Result<(), Fault> {
@@ -172,9 +160,9 @@ mod tests {
     #[test]
     fn templates() {
         assert_eq!(parts(b"#&#\\cr ab"), [(0, 0), (0, 0)]);
-        assert_eq!(read(b"#&#\\cr ab").unwrap().bytes, 7);
-        assert_eq!(read(b"#\\cr \n 1").unwrap().bytes, 7);
-        assert_eq!(read(b"#\\cr1").unwrap().bytes, 4);
+        assert_eq!(read(b"#&#\\cr ab").unwrap().text.len(), 7);
+        assert_eq!(read(b"#\\cr \n 1").unwrap().text.len(), 7);
+        assert_eq!(read(b"#\\cr1").unwrap().text.len(), 4);
         assert_eq!(parts(b"  a # b &\\tabskip 1pt  \\hfil#\\cr"), [(2, 3), (1, 0)]);
         assert_eq!(parts(b"a\\&b\\kern1pt #  \\kern 1pt  \\cr"), [(4, 3)]);
         assert_eq!(parts(b"\\kern1pt  #\\cr"), [(2, 0)]);

@@ -9,6 +9,8 @@ use crate::texts::{any_tokens, damaged, insert, Look, Text};
 #[derive(Clone, Debug)]
 pub struct RowLook {
     pub items: Look,
+    /// Columns in which no entry is to end, so that they become void.
+    pub voids: Vec<bool>,
     pub spans: usize,
     pub omits: usize,
 }
@@ -37,10 +39,14 @@ pub fn row(rng: &mut Rng, look: &RowLook) -> Vec<u8> {
         text.spaces();
     }
     let columns = look.items.columns + usize::from(text.rng.percent(3));
-    let stop = if text.rng.percent(25) { text.rng.below(columns) } else { columns - 1 };
+    let mut stop = if text.rng.percent(25) { text.rng.below(columns) } else { columns - 1 };
+    while stop + 1 < columns && look.voids.get(stop) == Some(&true) {
+        stop += 1;
+    }
     for column in 0..=stop {
         if column > 0 {
-            parting(&mut text, look);
+            let void = look.voids.get(column - 1).copied().unwrap_or(false);
+            parting(&mut text, if void { 100 } else { look.spans });
         }
         cell(&mut text, look);
     }
@@ -53,8 +59,9 @@ pub fn row(rng: &mut Rng, look: &RowLook) -> Vec<u8> {
     bytes
 }
 
-fn parting(text: &mut Text, look: &RowLook) {
-    if text.rng.percent(look.spans) {
+/// Of a hundred, so many are \span.
+fn parting(text: &mut Text, spans: usize) {
+    if text.rng.percent(spans) {
         text.control(b"\\span");
     } else {
         text.plain(b"&");

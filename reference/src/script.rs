@@ -1,9 +1,17 @@
 //! A script of calls, read and performed (docs/FORMAT.md, 'A script of calls').
 
+use crate::boxes::{self, BoxList};
+use crate::bytes;
 use crate::faults::Fault;
 use crate::measure::{Extent, Measurer, Mono};
+use crate::setting::Wanted;
+use crate::spelling::small_hex;
 use crate::table::{Cell, Room, Stage, Table, LARGEST};
 use std::fmt;
+
+/// What the largest table can take.
+pub const MOST_RECORDS: usize = 17_408;
+pub const MOST_BYTES: usize = 1_048_576;
 
 #[derive(Clone, Debug, PartialEq, Eq)]
 pub enum Call {
@@ -22,6 +30,11 @@ pub enum Call {
     Gap(i64),
     Ask(i64),
     Line(Vec<u8>),
+    /// A side, a width, and how many records are lent.
+    Set(i64, Wanted, usize),
+    /// How many bytes are lent.
+    Write(usize),
+    Fetch(i64),
 }
 
 #[derive(Clone, Debug, PartialEq, Eq)]
@@ -44,6 +57,8 @@ pub enum Answer {
     Line(usize),
     /// Only spaces were left for a line.
     End,
+    Set(BoxList),
+    Bytes(Vec<u8>),
     Fault(Fault),
     Misuse,
     BadInput,
@@ -61,11 +76,19 @@ impl fmt::Display for Answer {
             }
             Answer::Line(bytes) => write!(f, "ok {bytes}"),
             Answer::End => write!(f, "ok end"),
+            Answer::Set(list) => write_list(f, list),
+            Answer::Bytes(bytes) => write!(f, "ok {}", small_hex(bytes)),
             Answer::Fault(fault) => write!(f, "{fault}"),
             Answer::Misuse => write!(f, "misuse"),
             Answer::BadInput => write!(f, "bad input"),
         }
     }
+}
+
+/// Each box on a line of its own.
+fn write_list(f: &mut fmt::Formatter<'_>, list: &BoxList) -> fmt::Result {
+    write!(f, "ok {} {} {}", list.width, list.height, list.boxes.len())?;
+    list.boxes.iter().try_for_each(|record| write!(f, "\nbox => {record}"))
 }
 
 /// Lines that are empty, hold only spaces or begin with `;`.
@@ -101,6 +124,9 @@ pub fn read_line(line: &[u8]) -> Option<Order> {
         b"kern" => one_number(&words).map(|n| Order::Call(Call::Kern(n))),
         b"gap" => one_number(&words).map(|n| Order::Call(Call::Gap(n))),
         b"ask" => one_number(&words).map(|n| Order::Call(Call::Ask(n))),
+        b"set" => read_set(&words),
+        b"write" => one_number(&words).and_then(|n| lent(n, MOST_BYTES)).map(|n| Order::Call(Call::Write(n))),
+        b"fetch" => one_number(&words).map(|n| Order::Call(Call::Fetch(n))),
         _ => None,
     }
 }
@@ -149,6 +175,22 @@ fn read_room(words: &[&[u8]]) -> Option<Order> {
     Some(Order::Room(room.cut()))
 }
 
+fn read_set(words: &[&[u8]]) -> Option<Order> {
+    let [side, wanted, records] = words else {
+        return None;
+    };
+    let wanted = match *wanted {
+        b"natural" => Wanted::Natural,
+        width => Wanted::Width(number(width)?),
+    };
+    Some(Order::Call(Call::Set(number(side)?, wanted, lent(number(records)?, MOST_RECORDS)?)))
+}
+
+/// What a host lends, cut to the most that the largest table can take; nothing for a negative number.
+fn lent(n: i64, most: usize) -> Option<usize> {
+    usize::try_from(n).ok().map(|n| n.min(most))
+}
+
 fn read_measurer(words: &[&[u8]]) -> Option<Order> {
     match words {
         [b"mono", rest @ ..] => numbers(rest).map(Order::Mono),
@@ -184,6 +226,8 @@ pub struct Session {
     start: [i64; 3],
     table: Option<Table>,
     cell: Option<Cell>,
+    /// The list that was set last.
+    list: Option<BoxList>,
     over: bool,
 }
 
@@ -195,6 +239,7 @@ impl Default for Session {
             start: [0, 0, 0],
             table: None,
             cell: None,
+            list: None,
             over: false,
         }
     }
@@ -217,6 +262,10 @@ impl Session {
         self.cell
     }
 
+    pub fn list(&self) -> Option<&BoxList> {
+        self.list.as_ref()
+    }
+
     /// A refused measurer or preamble ended the run.
     pub fn over(&self) -> bool {
         self.over
@@ -236,8 +285,13 @@ impl Session {
     fn order(&mut self, order: Order) -> Answer {
         match order {
             Order::Call(call) => match &mut self.table {
-                Some(table) => perform_call(table, &mut self.cell, call),
                 None => Answer::BadInput,
+                Some(table) => match call {
+                    Call::Set(side, wanted, records) => set(table, &mut self.list, side, wanted, records),
+                    Call::Write(room) => write_out(&self.list, room),
+                    Call::Fetch(number) => fetch(table, &self.list, number),
+                    call => perform_call(table, &mut self.cell, call),
+                },
             },
             setting if self.table.is_none() => self.setting(setting),
             _ => Answer::BadInput,
@@ -274,7 +328,7 @@ impl Session {
     fn preamble(&mut self, text: &[u8]) -> Answer {
         match Table::make(text, self.measurer, self.start, self.room) {
             Ok(table) => {
-                let answer = Answer::Read { bytes: table.preamble.bytes, columns: table.columns() };
+                let answer = Answer::Read { bytes: table.preamble.text.len(), columns: table.columns() };
                 self.table = Some(table);
                 answer
             }
@@ -290,6 +344,37 @@ impl Session {
 
 fn twin(strip: [i64; 4], window: [i64; 4]) -> Result<Measurer, Fault> {
     Ok(Measurer::Twin(Mono::new(strip)?, Mono::new(window)?))
+}
+
+/// A refused set leaves the list as it was.
+fn set(table: &Table, list: &mut Option<BoxList>, side: i64, wanted: Wanted, records: usize) -> Answer {
+    match table.set(side, wanted, records) {
+        Ok(new) => {
+            *list = Some(new.clone());
+            Answer::Set(new)
+        }
+        Err(fault) => Answer::Fault(fault),
+    }
+}
+
+fn write_out(list: &Option<BoxList>, room: usize) -> Answer {
+    match list.as_ref().map(|list| bytes::write(list, room)) {
+        None => Answer::Misuse,
+        Some(Ok(bytes)) => Answer::Bytes(bytes),
+        Some(Err(fault)) => Answer::Fault(fault),
+    }
+}
+
+/// Of the box with this number, counted from 1.
+fn fetch(table: &Table, list: &Option<BoxList>, number: i64) -> Answer {
+    let index = usize::try_from(number).ok().and_then(|n| n.checked_sub(1));
+    let Some(record) = list.as_ref().zip(index).and_then(|(list, index)| list.boxes.get(index)) else {
+        return Answer::Misuse;
+    };
+    match boxes::fetch(record, &table.preamble.text, &table.line_text()) {
+        Ok(bytes) => Answer::Bytes(bytes.to_vec()),
+        Err(fault) => Answer::Fault(fault),
+    }
 }
 
 fn perform_call(table: &mut Table, cell: &mut Option<Cell>, call: Call) -> Answer {
@@ -345,6 +430,7 @@ fn row_call(table: &mut Table, cell: &mut Option<Cell>, held: Cell, call: Call) 
         Call::Kern(length) => table.put_kern(held, length).map(|()| Some(held)),
         Call::Hfil => table.put_hfil(held).map(|()| Some(held)),
         Call::Take | Call::Rule | Call::Gap(_) | Call::Ask(_) | Call::Line(_) => return Answer::Misuse,
+        Call::Set(..) | Call::Write(_) | Call::Fetch(_) => return Answer::Misuse,
     };
     match moved {
         Ok(next) => {
@@ -391,7 +477,8 @@ mod tests {
     /// Performs the lines of a worked script and compares with the answers that it shows.
     fn worked(shown: &str) {
         let shown: Vec<&str> = shown.lines().map(str::trim_start).filter(|l| !l.is_empty()).collect();
-        let script: Vec<&str> = shown.iter().map(|l| l.split(" => ").next().unwrap_or("")).collect();
+        let asked = shown.iter().filter(|l| !l.starts_with("box => "));
+        let script: Vec<&str> = asked.map(|l| l.split(" => ").next().unwrap_or("")).collect();
         let out = String::from_utf8(perform(script.join("\n").as_bytes())).unwrap();
         assert_eq!(out.lines().collect::<Vec<_>>(), shown);
     }
@@ -487,6 +574,81 @@ mod tests {
             gap -1 => fault 27 place 0 layer 2
             ask 1 => ok -16777210 -16777205
             Take => bad input",
+        );
+    }
+
+    #[test]
+    fn set_write_and_fetch() {
+        worked(
+            r"set 1 natural 3 => bad input
+            preamble #&#\cr => ok 6 2
+            write 30 => misuse
+            fetch 1 => misuse
+            line ab&c\cr => ok 7
+            line \span\omit d\cr => ok 15
+            set 1 natural 2 => fault 26 place 0 layer 3
+            write 30 => misuse
+            set 1 natural 3 => ok 30 18 3
+            box => 1 0 7 20 7 2 1 0 2
+            box => 1 20 7 10 7 2 1 2 1
+            box => 1 0 16 10 7 2 1 3 1
+            take => ok
+            write 30 => ok 1e1203010007280702010002012807140702010201010010140702010301
+            write 29 => fault 26 place 0 layer 3
+            fetch 1 => ok 6162
+            fetch 3 => ok 64
+            fetch 4 => misuse
+            fetch 0 => misuse
+            fetch -1 => misuse
+            giveup => ok
+            set 1 31 9 => fault 23 place 0 layer 3
+            set 2 natural 0 => fault 24 place 0 layer 3
+            set -1 natural 0 => fault 24 place 0 layer 3
+            set 1 30 0 => fault 26 place 0 layer 3
+            fetch 3 => ok 64",
+        );
+    }
+
+    #[test]
+    fn a_rule_is_listed_and_not_fetched() {
+        worked(
+            r"preamble a#\tabskip 0pt plus 1fil\cr => ok 27 1
+            line b\cr => ok 4
+            rule => ok
+            set  1  300  999999999999999999  => ok 300 26223 3
+            box => 1 0 7 10 7 2 0 0 1
+            box => 1 10 7 10 7 2 1 0 1
+            box => 2 0 26223 300 26214 0 0 0 0
+            fetch 1 => ok 61
+            fetch 2 => ok 62
+            fetch 3 => fault 28 place 0 layer 3
+            line c\cr => ok 4
+            fetch 2 => ok 62
+            write 999999999999999999 => ok ac02efcc01030100071407020000010114071407020100010200efcc01d804e6cc0100",
+        );
+    }
+
+    #[test]
+    fn sets_that_cannot_be_read() {
+        worked(
+            r"preamble #\cr => ok 4 1
+            set 1 natural -1 => bad input
+            set 1 natural => bad input
+            set natural 1 5 => bad input
+            set 1 Natural 5 => bad input
+            set 1 30 5 5 => bad input
+            set 1 1234567890123456789 5 => bad input
+            write -1 => bad input
+            write => bad input
+            write 1 1 => bad input
+            fetch x => bad input
+            fetch => bad input
+            fetch -0 => misuse
+            set -0 -0 -0 => fault 24 place 0 layer 3
+            set 1 -0 -0 => ok 0 0 0
+            write -0 => fault 26 place 0 layer 3
+            write 3 => ok 000000
+            fetch 1 => misuse",
         );
     }
 

@@ -2,9 +2,10 @@
 //! docs/FAULTS.md, 'The row calls').
 
 use crate::faults::{Cause, Fault, Filled};
+use crate::items::Item;
 use crate::lengths::G;
 use crate::measure::{Extent, Measurer};
-use crate::preamble::{read_preamble, Column, Item, Preamble};
+use crate::preamble::{read_preamble, Column, Preamble};
 use crate::widths::{column_widths, Spread};
 
 /// The largest size of an entry's width.
@@ -66,6 +67,10 @@ struct OpenRow {
     current: Entry,
     cell: Cell,
     omitted: bool,
+    /// The width of the current entry so far.
+    natural: Extent,
+    /// What the row's entries take so far.
+    taken: Used,
 }
 
 /// How much is in use.
@@ -83,14 +88,6 @@ impl Used {
             entries: self.entries + other.entries,
             text: self.text + other.text,
         }
-    }
-
-    fn of(entries: &[Entry]) -> Used {
-        entries.iter().fold(Used { entries: entries.len(), ..Used::default() }, |used, entry| Used {
-            items: used.items + entry.items.len(),
-            text: used.text + entry.items.iter().map(|item| item.text).sum::<usize>(),
-            ..used
-        })
     }
 }
 
@@ -129,7 +126,9 @@ impl Table {
     pub(crate) fn open_row(&mut self) -> Cell {
         let cell = Cell { column: 0, stage: Stage::Fresh };
         let current = Entry { first: 0, last: 0, items: vec![] };
-        self.open = Some(OpenRow { ended: vec![], current, cell, omitted: false });
+        let natural = self.measurer.entered(0);
+        let taken = Used { entries: 1, ..Used::default() };
+        self.open = Some(OpenRow { ended: vec![], current, cell, omitted: false, natural, taken });
         cell
     }
 
@@ -149,18 +148,18 @@ impl Table {
         self.entry_fits(&self.sum(u.iter().chain(&v)))?;
         let row = self.row_of(cell, Stage::Fresh)?;
         row.omitted = false;
-        row.current.items.extend(u);
+        row.add(u);
         Ok(row.begin())
     }
 
     pub fn put_word(&mut self, cell: Cell, bytes: &[u8]) -> Result<(), Fault> {
         self.row_of(cell, Stage::Begun)?;
         let width = self.measurer.measured(bytes)?;
-        self.put(cell, Item { width, text: bytes.len() })
+        self.put(cell, Item::cell_word(width, bytes))
     }
 
     pub fn put_space(&mut self, cell: Cell) -> Result<(), Fault> {
-        self.put(cell, Item::bare(self.measurer.space()))
+        self.put(cell, Item::blank(self.measurer.space()))
     }
 
     pub fn put_kern(&mut self, cell: Cell, length: i64) -> Result<(), Fault> {
@@ -168,11 +167,11 @@ impl Table {
         if !(-G..=G).contains(&length) {
             return Err(Cause::OutOfRange.at(0));
         }
-        self.put(cell, Item::bare(self.measurer.entered(length)))
+        self.put(cell, Item::blank(self.measurer.entered(length)))
     }
 
     pub fn put_hfil(&mut self, cell: Cell) -> Result<(), Fault> {
-        self.put(cell, Item::bare(self.measurer.entered(0)))
+        self.put(cell, Item::fill(self.measurer.entered(0)))
     }
 
     /// 21, then 10, then 22.
@@ -180,8 +179,8 @@ impl Table {
         self.row_of(cell, Stage::Begun)?;
         let owed = self.owed_v();
         self.entry_fits(&self.sum(owed.iter().chain([&item])))?;
-        self.room_for(Used { items: 1, entries: 0, text: item.text })?;
-        self.row_of(cell, Stage::Begun)?.current.items.push(item);
+        self.room_for(Used { items: 1, entries: 0, text: item.text().len() })?;
+        self.row_of(cell, Stage::Begun)?.add([item]);
         Ok(())
     }
 
@@ -189,10 +188,8 @@ impl Table {
         let next = self.next_column(cell, 1)?;
         let owed = self.owed_v();
         let row = self.row_of(cell, Stage::Begun)?;
-        row.current.items.extend(owed);
-        let fresh = Entry { first: next, last: next, items: vec![] };
-        let ended = std::mem::replace(&mut row.current, fresh);
-        row.ended.push(ended);
+        row.add(owed);
+        row.end_entry(next);
         Ok(row.move_on(next))
     }
 
@@ -200,7 +197,7 @@ impl Table {
         let next = self.next_column(cell, 0)?;
         let owed = self.owed_v();
         let row = self.row_of(cell, Stage::Begun)?;
-        row.current.items.extend(owed);
+        row.add(owed);
         row.current.last = next;
         Ok(row.move_on(next))
     }
@@ -211,9 +208,9 @@ impl Table {
         let Some(mut row) = self.open.take() else {
             return Err(Cause::RowInHand.at(0));
         };
-        row.current.items.extend(owed);
+        row.add(owed);
         row.ended.push(row.current);
-        self.laid = self.laid.and(Used::of(&row.ended));
+        self.laid = self.laid.and(row.taken);
         self.lines.push(Line::Row(row.ended));
         Ok(())
     }
@@ -261,6 +258,11 @@ impl Table {
             Line::Row(entries) => entries.as_slice(),
             Line::Rule | Line::Gap(_) => &[],
         })
+    }
+
+    /// The bytes of all laid words of cells, back to back.
+    pub fn line_text(&self) -> Vec<u8> {
+        self.laid_entries().flat_map(|entry| &entry.items).flat_map(|item| item.text().iter().copied()).collect()
     }
 
     fn spread(&self, entry: &Entry) -> Spread {
@@ -337,9 +339,8 @@ impl Table {
         let Some(row) = &self.open else {
             return self.laid;
         };
-        let in_hand = Used::of(&row.ended).and(Used::of(std::slice::from_ref(&row.current)));
         let owed = Used { items: self.owed_items(row), ..Used::default() };
-        self.laid.and(in_hand).and(owed)
+        self.laid.and(row.taken).and(owed)
     }
 
     fn room_for(&self, more: Used) -> Result<(), Fault> {
@@ -366,7 +367,7 @@ impl Table {
     /// 10 if the entry so far and what is added are outside ±K on a side.
     fn entry_fits(&self, added: &Extent) -> Result<(), Fault> {
         let so_far = match &self.open {
-            Some(row) => self.sum(&row.current.items),
+            Some(row) => row.natural.clone(),
             None => self.measurer.entered(0),
         };
         let fits = so_far.iter().zip(added).all(|(a, b)| (-K..=K).contains(&(a + b)));
@@ -388,6 +389,23 @@ impl Table {
 }
 
 impl OpenRow {
+    fn add(&mut self, items: impl IntoIterator<Item = Item>) {
+        for item in items {
+            self.natural.iter_mut().zip(&item.width).for_each(|(side, width)| *side += width);
+            self.taken.items += 1;
+            self.taken.text += item.text().len();
+            self.current.items.push(item);
+        }
+    }
+
+    /// The next entry begins in this column.
+    fn end_entry(&mut self, next: usize) {
+        let fresh = Entry { first: next, last: next, items: vec![] };
+        self.ended.push(std::mem::replace(&mut self.current, fresh));
+        self.natural.iter_mut().for_each(|side| *side = 0);
+        self.taken.entries += 1;
+    }
+
     fn begin(&mut self) -> Cell {
         self.cell.stage = Stage::Begun;
         self.cell

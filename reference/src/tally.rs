@@ -5,6 +5,7 @@ use crate::lengths::G;
 use crate::measure::Measurer;
 use crate::preamble::MOST_PART_ITEMS;
 use crate::script::{lines_of, read_line, write_answer, Answer, Call, Order, Session};
+use crate::set_tally::{note_set_calls, note_set_fault};
 use crate::table::{Entry, Line, Table, K};
 use std::collections::BTreeMap;
 
@@ -16,7 +17,7 @@ impl Tally {
         *self.0.entry(what.to_string()).or_default() += 1;
     }
 
-    fn add_if(&mut self, met: bool, what: &str) {
+    pub fn add_if(&mut self, met: bool, what: &str) {
         if met {
             self.add(what);
         }
@@ -66,7 +67,10 @@ fn note(tally: &mut Tally, session: &Session, line: &[u8], answer: &Answer, in_h
     tally.add("lines answered");
     let name = command_of(line);
     match answer {
-        Answer::Fault(fault) => tally.add(&fault_name(fault, &name)),
+        Answer::Fault(fault) => {
+            tally.add(&fault_name(fault, &name));
+            note_set_fault(tally, session, line, fault);
+        }
         Answer::Misuse => tally.add(&format!("misuse: {name}")),
         Answer::BadInput => tally.add("bad input"),
         Answer::Void => tally.add("ask: void"),
@@ -74,6 +78,7 @@ fn note(tally: &mut Tally, session: &Session, line: &[u8], answer: &Answer, in_h
         Answer::Read { columns, .. } => note_preamble(tally, session, *columns),
         Answer::End => tally.add("line: only spaces"),
         Answer::Line(_) => note_line(tally, session, line),
+        Answer::Set(_) | Answer::Bytes(_) => note_set_calls(tally, session, line, answer, in_hand),
         Answer::Done => note_done(tally, session, line),
     }
 }
@@ -233,6 +238,46 @@ mod tests {
         let scripts = all.count("scripts");
         assert!(all.count("preamble accepted") * 4 > scripts * 3);
         assert!(all.count("tables with a line") * 10 > scripts * 6);
+    }
+
+    /// Generated sets meet every cause of set, write and fetch, and every feature that is named here.
+    #[test]
+    fn sets_meet_everything() {
+        let mut all = Tally::default();
+        for seed in 0..3_000 {
+            let script = script(Kind::Sets, seed);
+            let (out, met) = perform_counted(&script);
+            assert_eq!(out, crate::script::perform(&script));
+            all.join(&met);
+        }
+        let mut wanted: Vec<String> = [
+            "fault 23 layer 3 CannotSet: set", "fault 24 layer 3 NoSuchSide: set", "fault 26 layer 3 TooLittleRoom: set",
+            "fault 26 layer 3 TooLittleRoom: write", "fault 28 layer 3 BadBox: fetch", "misuse: write", "misuse: fetch",
+            "set: with a row in hand", "set: as many records as boxes", "set: naturally", "set: no box", "set: a rule",
+            "set: a word left of the table", "set: a word right of the table", "set: a template's word", "set: a cell's word",
+            "set: to the largest width", "set: higher than the largest width", "set: the second side",
+            "set: sides that differ", "set: to the natural width as a number", "set: gaps of a lower order do not stretch",
+            "set: a higher order without a stretch", "set: three gaps or more share",
+            "set: gaps grow by a part that is cut", "set: a void column with a stretch behind it",
+            "set: words and fills that grow, the first item one", "set: words and fills that grow, the last item one",
+            "set: words and fills that grow, the first and last item one", "set: words and fills that grow, three or more",
+            "set: words and fills that grow by a part that is cut", "set: an entry over two columns or more",
+            "set: an entry over gaps that grow", "write: accepted", "write: as many bytes as needed",
+            "write: of no box, in three bytes", "set: one record too few", "write: one byte too few",
+            "fault 23: N below zero", "fault 23: N above the largest", "fault 23: T above the largest",
+            "fault 23: T below N", "fault 23: nothing to stretch", "fault 23: T one below N", "fault 23: nothing to stretch by one",
+            "fault 23: T one above the largest",
+            "fault 23: N one above the largest", "fault 23: N one below zero",
+            "fetch: from the preamble text", "fetch: from the line text",
+        ]
+        .map(String::from)
+        .into();
+        wanted.extend((0..4).map(|order| format!("set: gaps of order {order} share what is left over")));
+        let missing: Vec<&String> = wanted.iter().filter(|w| all.count(w) == 0).collect();
+        assert!(missing.is_empty(), "missing: {missing:#?}");
+        assert_eq!(all.count("set: an entry without room"), 0);
+        assert_eq!(all.count("fault 28 layer 3 BadBox: write"), 0);
+        assert!(all.count("set: accepted") > 3 * all.count("scripts"));
     }
 
     /// Generated lines meet every cause that a line can meet, and every feature that is named here.

@@ -14,6 +14,10 @@ pub struct Look {
     pub last: u8,
     /// Of a hundred places where \tabskip may stand, in how many it does.
     pub tabskips: usize,
+    /// Of a hundred gaps, how many have a stretch.
+    pub stretches: usize,
+    /// How often an item is \hfil, where any other is one 88 times.
+    pub fills: usize,
     /// Newlines among the spaces.
     pub newlines: bool,
     pub parts: Parts,
@@ -115,7 +119,7 @@ impl Text<'_> {
     fn tabskip_perhaps(&mut self) {
         if self.rng.percent(self.look.tabskips) {
             self.control(b"\\tabskip");
-            let glue = glue(self.rng);
+            let glue = glue(self.rng, self.look.stretches);
             self.plain(&glue);
             if self.rng.percent(30) {
                 self.spaces();
@@ -124,7 +128,7 @@ impl Text<'_> {
     }
 
     pub fn item(&mut self) {
-        match self.rng.weighted(&[40, 12, 18, 18, 12]) {
+        match self.rng.weighted(&[40, 12, 18, 18, self.look.fills]) {
             0 => {
                 let word = manuscript_word(self.rng, self.look.last);
                 self.plain(&word);
@@ -241,13 +245,15 @@ fn digits(rng: &mut Rng, count: usize) -> String {
 }
 
 /// A length, perhaps with `plus` and a stretch.
-pub fn glue(rng: &mut Rng) -> Vec<u8> {
+pub fn glue(rng: &mut Rng, stretches: usize) -> Vec<u8> {
     let mut text = length(rng);
-    if rng.percent(45) {
-        let amount = match rng.weighted(&[60, 20, 10, 10]) {
+    if rng.percent(stretches) {
+        let amount = match rng.weighted(&[50, 20, 10, 10, 10]) {
             0 => format!("{}", rng.below(4)),
             1 => format!("{}.{}", rng.below(256), digits(rng, 3)),
             2 => "255.99999".into(),
+            // 1, 2 and 3 sp.
+            3 => rng.pick("0.00002", &["0.00003", "0.00005"]).into(),
             _ => "0".into(),
         };
         let unit = rng.pick("fil", &["pt", "fill", "filll"]);
@@ -332,7 +338,7 @@ pub fn any_tokens(rng: &mut Rng) -> Vec<u8> {
 
 /// Exactly so many columns, one of them with a part of so many items, perhaps with an odd token behind these.
 pub fn counted_preamble(rng: &mut Rng, columns: usize, items: usize, odd_one: bool) -> Vec<u8> {
-    let look = Look { columns, items: 0, last: 126, tabskips: 0, newlines: false, parts: Parts::Usual };
+    let look = Look { columns, items: 0, last: 126, tabskips: 0, stretches: 0, fills: 12, newlines: false, parts: Parts::Usual };
     let mut text = Text { rng, look: &look, bytes: vec![], open_control: false };
     let full = text.rng.below(2 * columns);
     for part in 0..2 * columns {
@@ -396,7 +402,7 @@ mod tests {
         for _ in 0..20_000 {
             let text = length(&mut rng);
             assert_eq!(length_at(text.as_bytes(), 0).map(|(_, end)| end), Ok(text.len()), "{text}");
-            let text = glue(&mut rng);
+            let text = glue(&mut rng, 45);
             assert!(glue_at(&text, 0).is_ok(), "{}", text.escape_ascii());
         }
     }
