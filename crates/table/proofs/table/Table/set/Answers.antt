@@ -1,13 +1,24 @@
-use Rattle.std.proofs.Common.{◌≡◌, ℕ, suc, ◌-◌, ◌<◌, ◌≤◌, leb, List, Result, sym, ◌∙◌, subst, arith}
-use Rattle.std.proofs.lemmas.Bool.{and_parts, leb-true}
+use Rattle.std.proofs.Common.{rules, length, ◌≡◌, ℕ, suc, ◌-◌, ◌<◌, ◌≤◌, leb, List, Result, inl, inr, ⊎_elim, sym, ◌∙◌, subst, arith}
+use Rattle.std.proofs.lemmas.Bool.{and_parts, and_cases, leb-true, leb-false}
 use Rattle.faults.specs.declared.Fault.{Fault}
 use Rattle.boxlist.specs.declared.BoxRecord.{BoxRecord}
 use Rattle.packer.specs.declared.Laid.{Laid}
 use Rattle.packer.specs.Settings.{set_records}
 use Rattle.table.specs.Setting.{set_at}
-use Rattle.table.specs.Sets.{Sets}
+use Rattle.table.specs.Sets.{Sets, Barred, no_side}
 use Rattle.table.proofs.Lawful.{set-law}
 use Rattle.table.proofs.table.Table.set.Goals as goal
+
+pub returns-then-not-has_side-clause-law : goal.returns-then-not-has_side-clause-law
+returns-then-not-has_side-clause-law g c =
+    let n = g.M.Extent.Extent.count in
+    let side = c.args.side in
+    let none = and_cases (leb 1 side) (leb side n) (sym c.has_side.ensures ∙ c.if-not-has_side.true) in
+    subst (Barred c.args.self.now side c.args.aim (length c.args.records.now)) (sym c.at.ensures)
+    (no_side (⊎_elim (λ x. let l = leb-false 1 side x in inl (omega arith)) (λ y. let l = leb-false side n y in inr (omega arith)) none))
+
+pub set_on-requires : goal.set_on-requires
+set_on-requires g c = search rules
 
 pub returns-clause-law : goal.returns-clause-law
 returns-clause-law g c =
