@@ -43,6 +43,7 @@ impl Stage {
 
 impl<'a, 'p, E: Extent> Rows<'a, 'p, E> {
     /// Adds an item that is measured.
+    #[inline(always)]
     pub fn add(&mut self, put: Put<E>) -> Result<(), Fault>
         requires begun { begun_in self.old.draft.state.stage ≡ true }
         ensures answer { (wide : Item → ℕ → ℤ) → SoundAt E.count E.num wide self.old → ((k : ℕ) → k < E.count → (E.num put.entry.width k ≡ wide (meant self.old.preamble.text.now put.entry.item put.entry.word.now) k) × Within 1073741823 (E.num put.entry.width k))

@@ -18,6 +18,19 @@ impl fmt::Display for Width {
     }
 }
 
+// An extent's numbers, each behind a space, in one piece: so a line is written at once.
+#[derive(Drop)]
+struct Numbers<E>(E);
+
+impl<E: Extent> fmt::Display for Numbers<E> {
+    fn fmt<W: fmt::Write>(&self, f: &mut fmt::Formatter<W>) -> fmt::Result {
+        for number in (0..E::sides()).filter_map(|side| self.0.number(side)) {
+            write!(f, " {number}")?;
+        }
+        Ok(())
+    }
+}
+
 // One side of a table with its gaps, the starting one first, and where it is printed.
 #[derive(Drop)]
 struct Side<'a> {
@@ -106,15 +119,12 @@ fn print_job<E: Extent>(rt: &HostRuntime, gaps: &[i64], entries: &[Entry<E>]) ->
         println!(rt; "gap {k} {gap}")?;
     }
     for entry in entries {
-        print!(rt;
-            "entry {}-{}",
+        println!(rt;
+            "entry {}-{}{}",
             entry.first.saturating_add(1),
-            entry.last.saturating_add(1)
+            entry.last.saturating_add(1),
+            Numbers(entry.width)
         )?;
-        for number in (0..E::sides()).filter_map(|side| entry.width.number(side)) {
-            print!(rt; " {number}")?;
-        }
-        println!(rt)?;
     }
     Ok(())
 }

@@ -28,6 +28,7 @@ fn kern_fits(sp: i64) -> bool
 
 impl<'a, 'p, 'm, M: Measurer> Table<'a, 'p, 'm, M> {
     // Adds a measured item to the begun cell.
+    #[inline(always)]
     fn add(&mut self, put: Put<M::Extent>) -> Result<(), Fault>
         requires begun { begun_in self.old.rows.draft.state.stage ≡ true }
         requires fine { fine (M.Measurer.meaning self.old.measurer.now) (meant self.old.rows.preamble.text.now put.item put.word.now) ≡ true }

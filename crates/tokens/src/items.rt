@@ -24,7 +24,8 @@ impl fmt::Display for Item {
             Item::Token(Token::Space) => write!(f, "space"),
             Item::Token(Token::Word { place, len }) => write!(f, "word at {place} of {len}"),
             Item::Token(Token::Control(control)) => {
-                write!(f, "\\{}", control.spelling().escape_ascii())
+                let name = str::from_utf8(control.spelling()).unwrap_or("");
+                write!(f, "\\{name}")
             }
             Item::Token(Token::Ampersand) => write!(f, "&"),
             Item::Token(Token::Hash) => write!(f, "#"),
