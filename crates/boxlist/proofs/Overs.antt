@@ -12,7 +12,7 @@ module _ {X : Type 0} where
   over_none old place = ap (λ (k : ℕ). take place old ++ drop k old) (omega arith) ∙ take-append-drop place old
 
   -- two rows, one behind the other, are one
-  over-append : (xs ys old : List X) (place next : ℕ) → place + length xs ≤ length old → next ≡ place + length xs → over (over old place xs) next ys ≡ over old place (xs ++ ys)
+  pub over-append : (xs ys old : List X) (place next : ℕ) → place + length xs ≤ length old → next ≡ place + length xs → over (over old place xs) next ys ≡ over old place (xs ++ ys)
   over-append xs ys old place next room e =
       let m = take place old ++ xs in
       let d = drop (place + length xs) old in

@@ -92,8 +92,13 @@ fn glue(rt: HostRuntime) -> Result<(), Fail> {
         (b"1pt  plus 1fil", 65_536, 0, 0, 4),
     ];
     for (text, natural, stretch, order, end) in cases {
+        let read = glue_at(text, 0)?;
+        assert_eq!(rt; read.gap.natural(), natural, "{text:?}");
+        assert_eq!(rt; read.gap.stretch(), stretch, "{text:?}");
+        assert_eq!(rt; i64::from(read.gap.order()), order, "{text:?}");
+        assert_eq!(rt; read.end, end, "{text:?}");
         let expected = Gap::new(natural, stretch, order).map(|gap| Glue { gap, end });
-        assert_eq!(rt; glue_at(text, 0).ok(), expected, "{text:?}");
+        assert_eq!(rt; Some(read), expected, "{text:?}");
     }
     let gap = glue_at(b"-1pt plus 2fil", 0)?.gap;
     assert_eq!(rt; gap.natural(), -65_536);

@@ -121,7 +121,7 @@ module _ {E : Type 0} (count : ℕ) (num : E → ℕ → ℤ) (wide : Item → �
         );
       }
 
-  u-turns : h.marked ≡ false → h.column.template.u < 64 → written h < length t.pieces → (w : E) → Adds count num h.column.widths.u p.width w
+  pub u-turns : h.marked ≡ false → h.column.template.u < 64 → written h < length t.pieces → (w : E) → Adds count num h.column.widths.u p.width w
       → Turns count num wide text h t (taking (reading_of text h t) (meant text p.item []) p.last p.end) (with_piece t (written h) p.item) (Ok (Continue (more h p.end (longer_u h w))))
   u-turns m lt room w sum =
       let c = h.column.template in
@@ -134,7 +134,7 @@ module _ {E : Type 0} (count : ℕ) (num : E → ℕ → ℤ) (wide : Item → �
       (taking-u (reading_of text h t) (meant text p.item []) p.last p.end m (omega arith))
       (λ start s k kc. (sum_is h.column.widths.u c.from c.u k kc fits.few-u (fine-part text h.place c.from c.u (written h) t.pieces (omega arith) s.pieces) (s.wide-u k kc) w sum, s.wide-v k kc))
 
-  v-turns : h.marked ≡ true → h.column.template.v < 64 → written h < length t.pieces → (w : E) → Adds count num h.column.widths.v p.width w
+  pub v-turns : h.marked ≡ true → h.column.template.v < 64 → written h < length t.pieces → (w : E) → Adds count num h.column.widths.v p.width w
       → Turns count num wide text h t (taking (reading_of text h t) (meant text p.item []) p.last p.end) (with_piece t (written h) p.item) (Ok (Continue (more h p.end (longer_v h w))))
   v-turns m lt room w sum =
       let c = h.column.template in
