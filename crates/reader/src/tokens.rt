@@ -1,6 +1,7 @@
 //! The token at a place of a text.
-ghost use Rattle.std.specs.Prelude.{◌≡◌, ◌+◌, ◌^◌, ◌<◌, length, drop, ◌≢◌};
+ghost use Rattle.std.specs.Prelude.{◌≡◌, ◌∷◌, ◌+◌, ◌^◌, ◌<◌, length, drop, ◌≢◌};
 ghost use Rattle.std.specs.List.{prefix_len};
+ghost use Rattle.std.specs.Str.{bytes_eq};
 ghost use Rattle.reader.specs.Classes.{IsSpecial};
 ghost use Rattle.reader.specs.Reads.{Alone, LettersApart, Longest, Onward, Reads};
 ghost use Rattle.reader.specs.Tokens.{after_backslash, blank_byte, control_word, escapable, letters_of, mark_of, name_byte, spaces_end, spelled, token_at, token_of, word_byte, word_of};
@@ -115,14 +116,24 @@ fn is_escapable(b: u8) -> bool
     matches!(b, b'&' | b'#' | b'$' | b'%' | b'_' | b'{' | b'}')
 }
 
-// The control word that some letters spell.
-fn control_named(letters: &[u8]) -> Option<Control>
-    ensures { result ≡ spelled letters.now }
+// Whether the letters `first` and `more` spell a control word. The first one tells most words apart.
+fn spells(control: Control, first: u8, more: &[u8]) -> bool
+    ensures { result ≡ bytes_eq (first ∷ more.now) (letters_of control) }
+{
+    match control.spelling() {
+        [head, tail @ ..] => first == *head && more == tail,
+        [] => false,
+    }
+}
+
+// The control word that the letters `first` and `more` spell.
+fn control_named(first: u8, more: &[u8]) -> Option<Control>
+    ensures { result ≡ spelled (first ∷ more.now) }
 {
     CONTROLS
         .iter()
         .copied()
-        .find(|control| letters == control.spelling())
+        .find(|control| spells(*control, first, more))
 }
 
 // The mark of a special byte other than the backslash.
@@ -153,15 +164,18 @@ impl Rest<'_> {
         ensures { result ≡ control_word (drop 1 self.entry.bytes.now) self.entry.place }
     {
         let unknown = Cause::UnknownControl.at(self.place);
-        let [_, name @ ..] = self.bytes else {
+        let [_, first, rest @ ..] = self.bytes else {
             return Err(unknown);
         };
-        let (letters, behind) = name.split_at(run_len(name, is_letter));
-        let control = control_named(letters).ok_or(unknown)?;
+        if !is_letter(*first) {
+            return Err(unknown);
+        }
+        let (more, behind) = rest.split_at(run_len(rest, is_letter));
+        let control = control_named(*first, more).ok_or(unknown)?;
         let spaces = run_len(behind, is_blank);
         Ok(Lexeme {
             token: Token::Control(control),
-            end: self.place + 1 + letters.len() + spaces,
+            end: self.place + 2 + more.len() + spaces,
         })
     }
 
