@@ -62,12 +62,14 @@ impl<'a, 'p, E: Extent> Rows<'a, 'p, E> {
             return Err(Cause::EntryTooWide.at(0));
         }
         let owed = state.stage.owed(here.template);
-        self.draft.memory.check_room(Room {
+        if self.draft.memory.lacks(Room {
             items: state.marks.items + owed + 1,
             entries: state.marks.entries + 1,
             lines: state.lines + 1,
             text: state.marks.text + put.word.len(),
-        })?;
+        }) {
+            return Err(Cause::Full.at(0));
+        }
         self.draft.add_item(put);
         self.draft.state.row.width = sum;
         Ok(())

@@ -32,11 +32,18 @@ fn lacks(room: Room, need: Room) -> bool
 }
 
 impl<'a, E: Copy> Memory<'a, E> {
+    /// Whether there is not so much room.
+    pub(crate) fn lacks(&self, need: Room) -> bool
+        ensures { result ≡ lacking (room_in self.now) need.items need.entries need.lines need.text }
+    {
+        lacks(room_in(self), need)
+    }
+
     /// Refused where there is not so much room.
     pub(crate) fn check_room(&self, need: Room) -> Result<(), Fault>
         ensures { result ≡ unless (when (lacking (room_in self.now) need.items need.entries need.lines need.text) table_full) tt }
     {
-        if lacks(room_in(self), need) {
+        if self.lacks(need) {
             Err(Cause::Full.at(0))
         } else {
             Ok(())
